@@ -1,0 +1,103 @@
+-- Laws of numbers in bytes, once for every width w.
+use mathlib.Core.Path.{_≡_, refl, sym, ap, _∙_}
+use mathlib.Core.Bool.{cond}
+use mathlib.Core.List.{List, [], _∷_, _++_, append-assoc, append-nil}
+use Prim.Native.Nat.{ℕ, zero, suc, _+_, _*_, _-_, _%_, _/_, _≤_, _<_}
+use native.Mathlib.Numerals.{add-one}
+use native.Mathlib.Omega.{arith}
+use borrow.Author.Tests.{le-leb, lt-leb}
+use lib.ListN.{length, take, drop, getD, set, length-append, length-take, length-drop, take-append-drop, List·getD-eq-default}
+use lib.Seq.{sets, sets-eq, take-at, drop-at, drop-append-add, drop-drop, take-suc, take-length, getD-append-add}
+use Rattle.wire.specs.Bytes.{le, digits, bytes, placed}
+
+pub length-digits : (w x : ℕ) → length (digits w x) ≡ w
+length-digits zero x = refl
+length-digits (suc w) x = ap suc (length-digits w (x / 256))
+
+pub length-bytes : (w : ℕ) (xs : List ℕ) → length (bytes w xs) ≡ length xs * w
+unfolding bytes
+length-bytes w [] = omega arith
+length-bytes w (x ∷ xs) = simp length-append (omega (arith, length-digits w x, length-bytes w xs))
+
+pub bytes-append : (w : ℕ) (xs ys : List ℕ) → bytes w (xs ++ ys) ≡ bytes w xs ++ bytes w ys
+unfolding bytes
+bytes-append w [] ys = refl
+bytes-append w (x ∷ xs) ys = ap (λ (l : List ℕ). digits w x ++ l) (bytes-append w xs ys) ∙ sym (append-assoc (digits w x) (bytes w xs) (bytes w ys))
+
+-- past the end stands nothing
+pub le-past : (w : ℕ) (l : List ℕ) (k : ℕ) → length l ≤ k → le w l k ≡ 0
+le-past zero l k h = refl
+le-past (suc w) l k h = omega (arith, List·getD-eq-default l 0 h, le-past w l (k + 1) (omega arith))
+
+-- four bytes are two pairs
+pub le-join : (l : List ℕ) (k : ℕ) → le 4 l k ≡ le 2 l k + le 2 l (k + 2) * 65536
+le-join l k =
+    let e : k + 1 + 1 ≡ k + 2 = omega arith in
+    rw e (omega arith)
+
+-- what has no room is not stored
+pub placed-not : (l : List ℕ) (k : ℕ) (new : List ℕ) → length l < k + length new → l ≡ placed l k new
+unfolding placed
+placed-not l k new h = rw (lt-leb _ _ h)
+
+pub placed-fits : (l : List ℕ) (k : ℕ) (new : List ℕ) → k + length new ≤ length l → placed l k new ≡ take k l ++ (new ++ drop (k + length new) l)
+unfolding placed
+placed-fits l k new h = rw (le-leb _ _ h)
+
+pub length-placed : (l : List ℕ) (k : ℕ) (new : List ℕ) → k + length new ≤ length l → length (placed l k new) ≡ length l
+length-placed l k new h = rw (placed-fits l k new h) (simp (length-append, length-take, length-drop) (omega arith))
+
+-- a loop that stores numbers: i of them are stored
+unfoldable pub storing : ℕ → List ℕ → ℕ → List ℕ → ℕ → List ℕ
+storing w l k xs i = take k l ++ (bytes w (take i xs) ++ drop (k + i * w) l)
+
+module _ (w : ℕ) (l : List ℕ) (k : ℕ) (xs : List ℕ) where
+  pub storing-none : storing w l k xs 0 ≡ l
+  unfolding storing bytes
+  storing-none = let e : k + 0 * w ≡ k = omega arith in rw e (take-append-drop k l)
+
+  pub storing-all : k + length xs * w ≤ length l → storing w l k xs (length xs) ≡ placed l k (bytes w xs)
+  unfolding storing
+  storing-all h =
+      let e : length (bytes w xs) ≡ length xs * w = length-bytes w xs in
+      rw (placed-fits l k (bytes w xs) (omega arith), take-length xs, e)
+
+  -- the next number's bytes
+  pub storing-more : (i : ℕ) → i < length xs → k + (i + 1) * w ≤ length l
+      → sets (storing w l k xs i) (k + i * w) (digits w (getD xs i 0)) ≡ storing w l k xs (i + 1)
+  unfolding storing bytes
+  storing-more i h r =
+      let ds : List ℕ = digits w (getD xs i 0) in
+      let done : List ℕ = take k l ++ bytes w (take i xs) in
+      let len : length ds ≡ w = length-digits w (getD xs i 0) in
+      let lb : length (bytes w (take i xs)) ≡ length (take i xs) * w = length-bytes w (take i xs) in
+      let lt : length (take i xs) ≡ i = simp length-take (omega arith) in
+      let lk : length (take k l) ≡ k = simp length-take (omega arith) in
+      let ld : length done ≡ k + i * w = length-append (take k l) (bytes w (take i xs)) ∙ (rw (lb, lt, lk)) in
+      let whole : take k l ++ (bytes w (take i xs) ++ drop (k + i * w) l) ≡ done ++ drop (k + i * w) l = sym (append-assoc (take k l) (bytes w (take i xs)) (drop (k + i * w) l)) in
+      let room : k + i * w + length ds ≤ length (done ++ drop (k + i * w) l) = simp (length-append done (drop (k + i * w) l), length-drop) (omega arith) in
+      let next : drop (k + i * w + w) (done ++ drop (k + i * w) l) ≡ drop (k + (i + 1) * w) l =
+      (let e : k + i * w + w ≡ length done + w = omega arith in
+      let f : k + i * w + w ≡ k + (i + 1) * w = omega arith in
+      rw e (drop-append-add done (drop (k + i * w) l) w ∙ drop-drop w (k + i * w) l ∙ ap (λ (n : ℕ). drop n l) f)) in
+      let more : bytes w (take (i + 1) xs) ≡ bytes w (take i xs) ++ ds =
+      (rw (add-one i, take-suc xs i 0 h) (bytes-append w (take i xs) (getD xs i 0 ∷ []) ∙ ap (λ (r : List ℕ). bytes w (take i xs) ++ r) (append-nil ds))) in
+      rw (whole, sets-eq ds (done ++ drop (k + i * w) l) (k + i * w) room, take-at done (drop (k + i * w) l) (k + i * w) ld, len, next, more)
+      (simp append-assoc)
+
+-- the stores of one turn, as the code writes them
+module _ (l o : List ℕ) (k : ℕ) (xs : List ℕ) (i : ℕ) (h : i < length xs) where
+  abbrev x : ℕ
+  x = getD xs i 0
+
+  pub turn-two : k + length xs * 2 ≤ length l → o ≡ storing 2 l k xs i
+      → set (set o (k + i * 2) (x % 256)) (k + i * 2 + 1) (x / 256 % 256) ≡ storing 2 l k xs (i + 1)
+  turn-two r e = rw (e, add-one (k + i * 2)) (storing-more 2 l k xs i h (omega arith))
+
+  pub turn-four : k + length xs * 4 ≤ length l → o ≡ storing 4 l k xs i
+      → set (set (set (set o (k + i * 4) (x % 256)) (k + i * 4 + 1) (x / 256 % 256)) (k + i * 4 + 2) (x / 256 / 256 % 256)) (k + i * 4 + 3) (x / 256 / 256 / 256 % 256)
+      ≡ storing 4 l k xs (i + 1)
+  turn-four r e =
+      let two : k + i * 4 + 2 ≡ suc (suc (k + i * 4)) = omega arith in
+      let three : k + i * 4 + 3 ≡ suc (suc (suc (k + i * 4))) = omega arith in
+      rw (e, add-one (k + i * 4), two, three) (storing-more 4 l k xs i h (omega arith))
