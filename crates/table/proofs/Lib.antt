@@ -1,0 +1,3 @@
+pub mod RangeLaws
+pub mod RowLaws
+pub mod CheckLaws

@@ -1,0 +1,73 @@
+use borrow.Author.Needs.{needs}
+use native.Mathlib.Omega.{arith}
+use native.Mathlib.Numerals.{add-one}
+use mathlib.Core.Path.{_≡_, refl, sym, ap, _∙_}
+use mathlib.Core.Bool.{Bool, true, false}
+use mathlib.Core.List.{List, [], _∷_, _++_}
+use Prim.Native.Nat.{ℕ, _+_, _*_, _≤_, _<_, _-_}
+use lib.ListN.{length, take, drop, getD, set}
+use Rattle.table.specs.Rows.{rows, rowAt, said}
+use Rattle.table.specs.Check.{allInRange, inRange}
+use Rattle.table.proofs.RowLaws.{range-none, range-more, range-stop}
+use borrow.Author.Tests.{not-true, not-false}
+use Rattle.table.proofs.ranges.all_in_range.Statement.{statement}
+use Rattle.table.proofs.ranges.all_in_range.Tie as tie
+use Rattle.table.proofs.ranges.all_in_range.Reads as reads
+use Rattle.table.proofs.ranges.all_in_range.Lts as lts
+use Rattle.table.proofs.ranges.in_range.Reads as in-range-reads
+use Rattle.table.proofs.rows.row_at.Reads as row-at-reads
+
+abbrev Inv-loop : tie.InvT-loop
+Inv-loop cells n states i₀ i = (i ≤ n) × (allInRange states (rows cells i) ≡ true)
+
+abbrev μ-loop : tie.MeasureT-loop
+μ-loop cells n states i₀ i = n - i
+
+loop-holds : tie.Need-loop-holds Inv-loop μ-loop
+loop-holds c = (omega arith, range-none _ _)
+
+row-at-requires : tie.Need-row-at-requires Inv-loop μ-loop
+row-at-requires c κs = search needs
+
+in-range-requires : tie.Need-in-range-requires Inv-loop μ-loop
+in-range-requires c κs = search needs
+
+returns : tie.Need-returns Inv-loop μ-loop
+returns c =
+    let a = c .before .before .before .before .before .args in
+    let l = c .before .before .before .before .loop in
+    let e = rw (c .before .before .row-at .ensures) at (sym (c .before .in-range .ensures) ∙ not-true _ (c .if1 .taken)) in
+    range-stop (a .states) (a .cells .now) (a .n) (l .i) (omega arith) e
+
+add-i : tie.Need-add-i Inv-loop μ-loop
+add-i c = search needs
+
+loop-less : tie.Need-loop-less Inv-loop μ-loop
+loop-less c = search needs
+
+loop-again : tie.Need-loop-again Inv-loop μ-loop
+loop-again c =
+    let a = c .before .before .before .before .before .args in
+    let l = c .before .before .before .before .loop in
+    let e = rw (c .before .before .row-at .ensures) at (sym (c .before .in-range .ensures) ∙ not-false _ (c .if1 .left)) in
+    (omega arith, range-more (a .states) (a .cells .now) (l .i) (l .inv .1) e)
+
+returns-2 : tie.Need-returns-2 Inv-loop μ-loop
+returns-2 c =
+    let e : c .before .loop .i ≡ c .before .before .args .n = omega arith in
+    sym (rw e at (c .before .loop .inv .1))
+
+pub all-in-range-spec : {M : Type 1} → statement M
+all-in-range-spec =
+    tie.close
+    (tie.spec
+    Inv-loop
+    μ-loop
+    loop-holds
+    row-at-requires
+    in-range-requires
+    returns
+    add-i
+    loop-less
+    loop-again
+    returns-2)

@@ -1,0 +1,129 @@
+// The table value, its check, its reader and its writer.
+ghost use mathlib.Core.Path.{_≡_};
+ghost use Rattle.table.specs.Refusal.{refusalNumber, refusalPlace};
+ghost use Rattle.table.specs.Rows.{rowOf};
+ghost use Rattle.table.specs.Check.{checkOf};
+
+mod ranges;
+mod reader;
+mod rows;
+mod writer;
+
+// Document 01's refusals, each with the place that it names.
+pub enum Refusal {
+    Cut(usize),
+    Misplaced(usize),
+    Full(usize),
+    OutOfRange(usize),
+    Repeated(usize),
+    NoTrace,
+    Uneven,
+    NoRoom,
+    Outside(usize),
+}
+
+// A transition on its own.
+pub struct Row {
+    pub from: u16,
+    pub input: u16,
+    pub output: u16,
+    pub to: u16,
+    pub u: u16,
+    pub v: u16,
+    pub d: u16,
+}
+
+// A table. Only the crate knows how the transitions stand in the cells.
+pub struct Table {
+    pub states: u16,
+    pub initial: u16,
+    pub count: usize,
+    pub cells: [u16; 1792],
+}
+
+pub enum Checked {
+    Sound,
+    Refused(Refusal),
+}
+
+pub struct Reading {
+    pub answer: Checked,
+    pub table: Table,
+}
+
+pub enum Written {
+    Bytes(usize),
+    Refused(Refusal),
+}
+
+// The number of a refusal.
+pub fn number(r: Refusal) -> u16
+    ensures { λ n. ⌜ n ≡ refusalNumber r ⌝ }
+{
+    match r {
+        Refusal::Cut(_) => 1,
+        Refusal::Misplaced(_) => 2,
+        Refusal::Full(_) => 3,
+        Refusal::OutOfRange(_) => 4,
+        Refusal::Repeated(_) => 5,
+        Refusal::NoTrace => 6,
+        Refusal::Uneven => 7,
+        Refusal::NoRoom => 8,
+        Refusal::Outside(_) => 9,
+    }
+}
+
+// The place that a refusal names.
+pub fn place(r: Refusal) -> usize
+    ensures { λ n. ⌜ n ≡ refusalPlace r ⌝ }
+{
+    match r {
+        Refusal::Cut(at) => at,
+        Refusal::Misplaced(at) => at,
+        Refusal::Full(at) => at,
+        Refusal::OutOfRange(at) => at,
+        Refusal::Repeated(at) => at,
+        Refusal::NoTrace => 0,
+        Refusal::Uneven => 0,
+        Refusal::NoRoom => 0,
+        Refusal::Outside(step) => step,
+    }
+}
+
+// The transition at i; past the 256th stands nothing.
+pub fn row_of(cells: &[u16; 1792], i: usize) -> Row
+    ensures { λ r. ⌜ r ≡ rowOf (now (cells .entry)) i ⌝ }
+{
+    if 256 <= i {
+        return Row {
+            from: 0,
+            input: 0,
+            output: 0,
+            to: 0,
+            u: 0,
+            v: 0,
+            d: 0,
+        };
+    }
+    rows::row_at(cells, i)
+}
+
+// The check of a table value: 3, then 4, then 5, at place 0.
+pub fn check(t: Table) -> Checked
+    ensures { λ r. ⌜ r ≡ checkOf t ⌝ }
+{
+    let n = t.count;
+    if 256 < n {
+        return Checked::Refused(Refusal::Full(0));
+    }
+    if !ranges::head_fine(t.states, t.initial) {
+        return Checked::Refused(Refusal::OutOfRange(0));
+    }
+    if !ranges::all_in_range(&t.cells, n, t.states) {
+        return Checked::Refused(Refusal::OutOfRange(0));
+    }
+    if ranges::any_repeated(&t.cells, n) {
+        return Checked::Refused(Refusal::Repeated(0));
+    }
+    Checked::Sound
+}

@@ -1,0 +1,87 @@
+// Whether a table value is valid: ranges, then equal pairs.
+use crate::Row;
+use crate::rows::{has_row, row_at};
+ghost use mathlib.Core.Path.{_≡_};
+ghost use Prim.Native.Nat.{_≤_};
+ghost use Rattle.table.specs.Rows.{rows, said};
+ghost use Rattle.table.specs.Check.{headFine, inRange, allInRange, repeats};
+
+// 1 to 32 states, the initial one among them.
+pub(crate) fn head_fine(states: u16, initial: u16) -> bool
+    ensures { λ b. ⌜ b ≡ headFine states initial ⌝ }
+{
+    if states < 1 {
+        return false;
+    }
+    if 32 < states {
+        return false;
+    }
+    if states <= initial {
+        return false;
+    }
+    true
+}
+
+// Every number of a transition within its range.
+pub(crate) fn in_range(states: u16, r: Row) -> bool
+    ensures { λ b. ⌜ b ≡ inRange states (said r) ⌝ }
+{
+    if states <= r.from {
+        return false;
+    }
+    if 255 < r.input {
+        return false;
+    }
+    if 255 < r.output {
+        return false;
+    }
+    if states <= r.to {
+        return false;
+    }
+    if r.u < 1 {
+        return false;
+    }
+    if r.v <= r.u {
+        return false;
+    }
+    if 4095 < r.v {
+        return false;
+    }
+    if r.d < 1 {
+        return false;
+    }
+    if 240 < r.d {
+        return false;
+    }
+    true
+}
+
+// All of the first n transitions within their ranges.
+pub(crate) fn all_in_range(cells: &[u16; 1792], n: usize, states: u16) -> bool
+    requires { ⌜ n ≤ 256 ⌝ }
+    ensures { λ b. ⌜ b ≡ allInRange states (rows (now (cells .entry)) n) ⌝ }
+{
+    let mut i: usize = 0;
+    while i < n {
+        if !in_range(states, row_at(cells, i)) {
+            return false;
+        }
+        i += 1;
+    }
+    true
+}
+
+// Whether one of the first n transitions equals an earlier one.
+pub(crate) fn any_repeated(cells: &[u16; 1792], n: usize) -> bool
+    requires { ⌜ n ≤ 256 ⌝ }
+    ensures { λ b. ⌜ b ≡ repeats (now (cells .entry)) n ⌝ }
+{
+    let mut i: usize = 0;
+    while i < n {
+        if has_row(cells, i, row_at(cells, i)) {
+            return true;
+        }
+        i += 1;
+    }
+    false
+}
