@@ -7,3 +7,4 @@ pub mod Trace
 pub mod Span
 pub mod Verdict
 pub mod Shown
+pub mod Stamps

@@ -22,7 +22,7 @@ use Rattle.table.proofs.RangeLaws.{HeadFine, refuted, head-true, all-in
 use Rattle.table.proofs.RowLaws.{length-rows, at-rows, row-in, repeats-here}
 
 module _ (t : Table) where
-  abbrev ranged : Bool
+  abbrev pub ranged : Bool
   ranged = allInRange (t .states) (rows (t .cells) (t .count))
 
   pub check-full : 256 < t .count → Refused (Full 0) ≡ checkOf t
@@ -53,9 +53,9 @@ repeats-pair c zero e = let z : _≡_ {A = ℕ} 0 1 = cc in absurd (omega arith)
 repeats-pair c (suc n) e =
     ⊎-elim
     (λ h.
-        let p = in-place none (said (rowAt c n)) (rows c n) (has-in (said (rowAt c n)) (rows c n) .0 h) in
-        let l : p .0 < n = omega (arith, p .1, length-rows c n) in
-        (p .0, n, l, omega arith, sym (at-rows c n (p .0) l) ∙ p .2))
+    let p = in-place none (said (rowAt c n)) (rows c n) (has-in (said (rowAt c n)) (rows c n) .0 h) in
+    let l : p .0 < n = omega (arith, p .1, length-rows c n) in
+    (p .0, n, l, omega arith, sym (at-rows c n (p .0) l) ∙ p .2))
     (λ h. let r = repeats-pair c n h in (r .0, r .1, r .2, omega (arith, r .3), r .4))
     (or-true (has (said (rowAt c n)) (rows c n)) (repeats c n) e)
 

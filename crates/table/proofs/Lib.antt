@@ -1,3 +1,4 @@
 pub mod RangeLaws
 pub mod RowLaws
 pub mod CheckLaws
+pub mod TestLaws

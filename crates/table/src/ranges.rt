@@ -1,6 +1,7 @@
 // Whether a table value is valid: ranges, then equal pairs.
 use crate::Row;
-use crate::rows::{has_row, row_at};
+use crate::rows::has_row;
+use crate::rows::row_at;
 ghost use mathlib.Core.Path.{_≡_};
 ghost use Prim.Native.Nat.{_≤_};
 ghost use Rattle.table.specs.Rows.{rows, said};
