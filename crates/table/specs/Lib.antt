@@ -2,3 +2,4 @@ pub mod Refusal
 pub mod Rows
 pub mod Check
 pub mod Tests
+pub mod File

@@ -3,6 +3,7 @@ ghost use mathlib.Core.Path.{_≡_};
 ghost use Rattle.table.specs.Refusal.{refusalNumber, refusalPlace};
 ghost use Rattle.table.specs.Rows.{rowOf};
 ghost use Rattle.table.specs.Check.{checkOf};
+ghost use Rattle.table.specs.File.{readingOf, readFile};
 
 mod ranges;
 mod reader;
@@ -49,6 +50,25 @@ pub enum Checked {
 pub struct Reading {
     pub answer: Checked,
     pub table: Table,
+}
+
+// The record at an offset: refused, a transition, or the end.
+pub(crate) enum Frame {
+    Bad(Refusal),
+    Took(Row),
+    Last,
+}
+
+// The numbers of the head, or its refusal.
+pub(crate) enum Opening {
+    Opened(u16, u16),
+    Shut(Refusal),
+}
+
+// The number of transitions, or the first refusal among them.
+pub(crate) enum Counted {
+    Count(usize),
+    Stop(Refusal),
 }
 
 pub enum Written {
@@ -126,4 +146,30 @@ pub fn check(t: Table) -> Checked
         return Checked::Refused(Refusal::Repeated(0));
     }
     Checked::Sound
+}
+
+// The table of a file, or the number and the offset of its first refusal with the table of one state and no transitions.
+pub fn read_table(file: &[u8]) -> Reading
+    ensures { λ r. ⌜ r ≡ readingOf (readFile (now (file .entry))) ⌝ }
+{
+    let h = reader::head(file);
+    match h {
+        Opening::Shut(r) => reader::refused(r),
+        Opening::Opened(states, initial) => {
+            let mut cells = [0u16; 1792];
+            let c = reader::read_rows(file, states, &mut cells);
+            match c {
+                Counted::Stop(r) => reader::refused(r),
+                Counted::Count(count) => Reading {
+                    answer: Checked::Sound,
+                    table: Table {
+                        states,
+                        initial,
+                        count,
+                        cells,
+                    },
+                },
+            }
+        }
+    }
 }

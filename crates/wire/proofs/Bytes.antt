@@ -7,7 +7,7 @@ use native.Mathlib.Numerals.{add-one}
 use native.Mathlib.Omega.{arith}
 use borrow.Author.Tests.{le-leb, lt-leb}
 use lib.ListN.{length, take, drop, getD, set, length-append, length-take, length-drop, take-append-drop, List·getD-eq-default}
-use lib.Seq.{sets, sets-eq, take-at, drop-at, drop-append-add, drop-drop, take-suc, take-length, getD-append-add}
+use lib.Seq.{sets, sets-eq, take-at, drop-at, drop-append-add, drop-drop, take-suc, take-length, getD-append-add, getD-drop}
 use Rattle.wire.specs.Bytes.{le, digits, bytes, placed}
 
 pub length-digits : (w x : ℕ) → length (digits w x) ≡ w
@@ -28,6 +28,13 @@ bytes-append w (x ∷ xs) ys = ap (λ (l : List ℕ). digits w x ++ l) (bytes-ap
 pub le-past : (w : ℕ) (l : List ℕ) (k : ℕ) → length l ≤ k → le w l k ≡ 0
 le-past zero l k h = refl
 le-past (suc w) l k h = omega (arith, List·getD-eq-default l 0 h, le-past w l (k + 1) (omega arith))
+
+-- a number in a part of the bytes
+pub le-drop : (w : ℕ) (l : List ℕ) (k j i : ℕ) → i ≡ k + j → le w (drop k l) j ≡ le w l i
+le-drop zero l k j i e = refl
+le-drop (suc w) l k j i e =
+    let g : getD (drop k l) j 0 ≡ getD l i 0 = getD-drop k l j 0 ∙ ap (λ (n : ℕ). getD l n 0) (sym e) in
+    omega (arith, le-drop w l k (j + 1) (i + 1) (omega arith))
 
 -- four bytes are two pairs
 pub le-join : (l : List ℕ) (k : ℕ) → le 4 l k ≡ le 2 l k + le 2 l (k + 2) * 65536

@@ -1,0 +1,171 @@
+-- The reader's loop: what is left of the file decides, whatever was read before.
+use mathlib.Core.Path.{_≡_, refl, sym, ap, _∙_}
+use mathlib.Core.Bool.{Bool, true, false, cond}
+use mathlib.Core.List.{List, [], _∷_, _++_}
+use mathlib.Core.Logic.{_⊎_, inl, inr, ⊎-elim, dite}
+use native.Mathlib.Decide.{decLt}
+use Prim.Native.Nat.{ℕ, zero, suc, _+_, _-_, _*_, _≤_, _<_}
+use native.Mathlib.Omega.{arith}
+use borrow.Author.Tests.{lt-ltb, le-ltb, le-leb, lt-leb, ltb-false, ltb-true, leb-true}
+use lib.Dec.{leb, ltb, eqb}
+use lib.ListN.{length, take, drop, length-append, length-drop}
+use lib.Seq.{drop-drop}
+use Rattle.model.specs.Table.{Transition, Machine}
+use Rattle.table.specs.declared.Refusal.{Refusal}
+use Rattle.table.specs.declared.Refusal.the-variants.{Cut, Misplaced, Full, OutOfRange, Repeated}
+use Rattle.table.specs.declared.Row.{Row}
+use Rattle.table.specs.declared.Checked.{Checked}
+use Rattle.table.specs.declared.Checked.the-variants.{Sound, Refused}
+use Rattle.table.specs.declared.Frame.{Frame}
+use Rattle.table.specs.declared.Frame.the-variants.{Bad, Took, Last}
+use Rattle.table.specs.declared.Reading.{Reading}
+use Rattle.table.specs.declared.Opening.the-variants.{Opened, Shut}
+use Rattle.table.specs.declared.Counted.{Counted}
+use Rattle.table.specs.declared.Counted.the-variants.{Count, Stop}
+use Rattle.table.specs.Rows.{rows, said, putRow, cellsOf}
+use Rattle.table.specs.Check.{inRange, has}
+use Rattle.table.specs.File.{headIn, readFile, readingOf, machine, stopped, kindIn, whole, frameIn, Found, found, refused, onFrame, ended, admitted, rowsFrom, RowsOutcome, finishOf, admitOf, admitCells}
+use Rattle.table.proofs.RowLaws.{length-rows}
+use Rattle.table.proofs.FrameLaws.{took-says, last-says, admit-full}
+use Rattle.table.proofs.CellLaws.{rows-cells, put-cells}
+
+-- one record decides the next step of the scan
+module _ (states at : ℕ) (rest : List ℕ) (ts : List Transition) where
+  pub rows-bad : (room : ℕ) (r : Refusal) → frameIn at rest ≡ Bad r → rowsFrom room states at rest ts ≡ refused r
+  unfolding rowsFrom
+  rows-bad zero r e = rw e
+  rows-bad (suc room) r e = rw e
+
+  pub rows-last : (room : ℕ) → frameIn at rest ≡ Last → rowsFrom room states at rest ts ≡ ended at rest ts
+  unfolding rowsFrom
+  rows-last zero e = rw e
+  rows-last (suc room) e = rw e
+
+  pub rows-full : (r : Row) → frameIn at rest ≡ Took r → rowsFrom 0 states at rest ts ≡ refused (Full at)
+  unfolding rowsFrom
+  rows-full r e = rw e
+
+  pub rows-took : (room : ℕ) (r : Row) → frameIn at rest ≡ Took r
+      → rowsFrom (suc room) states at rest ts ≡ admitted states at ts (said r) (rowsFrom room states (at + 18) (drop 18 rest) (ts ++ (said r ∷ [])))
+  unfolding rowsFrom
+  rows-took room r e = rw e
+
+-- n transitions stand in the cells, zeros behind them, and the scan from here on is the scan of the whole
+pub record Kept (file : List ℕ) (states : ℕ) (cells : List ℕ) (n at : ℕ) : Type 0 where
+  pub few : n ≤ 256
+  pub inside : at ≤ length file
+  pub shape : cells ≡ cellsOf (rows cells n)
+  pub same : rowsFrom (256 - n) states at (drop at file) (rows cells n) ≡ rowsFrom 256 states 8 (drop 8 file) []
+
+pub kept-start : (file : List ℕ) (states : ℕ) (cells : List ℕ) → 8 ≤ length file → cells ≡ cellsOf [] → Kept file states cells 0 8
+unfolding rows
+kept-start file states cells h e = record { few = omega arith; inside = h; shape = e; same = refl }
+
+-- what the tests 3, 4, 5 found
+admit-says : (states at n : ℕ) (ts : List Transition) (t : Transition) → n < 256 → admitOf states at n ts t ≡ Sound → (inRange states t ≡ true) × (has t ts ≡ false)
+unfolding admitOf
+admit-says states at n ts t h e = by-range (inRange states t) refl (rw (lt-leb 256 n h) at e)
+  where
+    by-twin : (b : Bool) → has t ts ≡ b → cond b (Refused (Repeated at)) Sound ≡ Sound → has t ts ≡ false
+    by-twin true q e = let z : _≡_ {A = ℕ} 0 1 = cc in absurd (omega arith)
+    by-twin false q e = q
+
+    by-range : (b : Bool) → inRange states t ≡ b → cond b (cond (has t ts) (Refused (Repeated at)) Sound) (Refused (OutOfRange at)) ≡ Sound
+        → (inRange states t ≡ true) × (has t ts ≡ false)
+    by-range true q e = (q, by-twin (has t ts) refl e)
+    by-range false q e = let z : _≡_ {A = ℕ} 0 1 = cc in absurd (omega arith)
+
+admit-few : (states at n : ℕ) (ts : List Transition) (t : Transition) → n ≤ 256 → admitOf states at n ts t ≡ Sound → n < 256
+unfolding admitOf
+admit-few states at n ts t f e = dite (decLt n 256) (λ h. h) (λ h. let q = rw (le-leb 256 n (omega arith)) at e in let z : _≡_ {A = ℕ} 0 1 = cc in absurd (omega arith))
+
+admit-stop : (states at n : ℕ) (ts : List Transition) (t : Transition) (x : Refusal) → n < 256 → Refused x ≡ admitOf states at n ts t
+    → (next : Found) → admitted states at ts t next ≡ refused x
+unfolding admitOf
+admit-stop states at n ts t x h e next = by-range (inRange states t) (rw (lt-leb 256 n h) at e)
+  where
+    same-refusal : (y : Refusal) → Refused x ≡ Refused y → refused y ≡ refused x
+    same-refusal y e = cc
+
+    by-twin : (b : Bool) → Refused x ≡ cond b (Refused (Repeated at)) Sound → cond b (refused (Repeated at)) next ≡ refused x
+    by-twin true e = same-refusal (Repeated at) e
+    by-twin false e = let z : _≡_ {A = ℕ} 0 1 = cc in absurd (omega arith)
+
+    by-range : (b : Bool) → Refused x ≡ cond b (cond (has t ts) (Refused (Repeated at)) Sound) (Refused (OutOfRange at))
+        → cond b (cond (has t ts) (refused (Repeated at)) next) (refused (OutOfRange at)) ≡ refused x
+    by-range true e = by-twin (has t ts) e
+    by-range false e = same-refusal (OutOfRange at) e
+
+admit-full-says : (states at n : ℕ) (ts : List Transition) (t : Transition) (x : Refusal) → 256 ≤ n → Refused x ≡ admitOf states at n ts t → x ≡ Full at
+admit-full-says states at n ts t x h e = let f : Refused x ≡ Refused (Full at) = e ∙ sym (admit-full states at n ts t h) in cc
+
+module _ (file : List ℕ) (states : ℕ) (cells : List ℕ) (n at : ℕ) (k : Kept file states cells n at) where
+  abbrev rest : List ℕ
+  rest = drop at file
+
+  abbrev ts : List Transition
+  ts = rows cells n
+
+  -- a refusal of this record is the refusal of the whole
+  pub kept-bad : (r : Refusal) → frameIn at rest ≡ Bad r → rowsFrom 256 states 8 (drop 8 file) [] ≡ refused r
+  kept-bad r e = sym (k .same) ∙ rows-bad states at rest ts (256 - n) r e
+
+  -- the end record ends the scan
+  pub kept-last : frameIn at rest ≡ Last → (c : Counted) → c ≡ finishOf at rest n → RowsOutcome (rowsFrom 256 states 8 (drop 8 file) []) c cells
+  kept-last e c q = by c (ltb 4 (length rest)) refl q
+    where
+      scan : rowsFrom 256 states 8 (drop 8 file) [] ≡ ended at rest ts
+      scan = sym (k .same) ∙ rows-last states at rest ts (256 - n) e
+
+      by : (c : Counted) (b : Bool) → ltb 4 (length rest) ≡ b → c ≡ cond b (Stop (Misplaced (at + 4))) (Count n)
+          → RowsOutcome (rowsFrom 256 states 8 (drop 8 file) []) c cells
+      by c true h q = rw q (scan ∙ rw h)
+      by c false h q = rw q (scan ∙ rw h, k .shape, k .few)
+
+  -- a transition that was refused is the refusal of the whole
+  pub kept-stop : (r : Row) → frameIn at rest ≡ Took r → (x : Refusal) → Refused x ≡ admitOf states at n ts (said r) → rowsFrom 256 states 8 (drop 8 file) [] ≡ refused x
+  kept-stop r e x q =
+      sym (k .same) ∙ dite (decLt n 256)
+      (λ h. let room : 256 - n ≡ suc (256 - (n + 1)) = omega arith in
+      rw (room, rows-took states at rest ts (256 - (n + 1)) r e) (admit-stop states at n ts (said r) x h q _))
+      (λ h. let room : 256 - n ≡ 0 = omega arith in
+      rw (room, rows-full states at rest ts r e, admit-full-says states at n ts (said r) x (omega arith) q))
+
+  -- a transition that was taken is stored, and the scan goes on behind it
+  pub kept-more : (r : Row) → frameIn at rest ≡ Took r → (next : List ℕ) → Sound ≡ admitOf states at n ts (said r) → next ≡ putRow cells n (said r)
+      → Kept file states next (n + 1) (at + 18)
+  kept-more r e next a q =
+      let h : n < 256 = admit-few states at n ts (said r) (k .few) (sym a) in
+      let s = admit-says states at n ts (said r) h (sym a) in
+      let w : next ≡ cellsOf (ts ++ (said r ∷ [])) = q ∙ ap (λ (c : List ℕ). putRow c n (said r)) (k .shape) ∙ put-cells ts n (said r) (length-rows cells n) h in
+      let len : length (ts ++ (said r ∷ [])) ≡ n + 1 = length-append ts (said r ∷ []) ∙ omega (arith, length-rows cells n) in
+      let rs : rows next (n + 1) ≡ ts ++ (said r ∷ []) = rw (w, ← len) (rows-cells (ts ++ (said r ∷ []))) in
+      let long = took-says at rest r e .long in
+      let room : 256 - n ≡ suc (256 - (n + 1)) = omega arith in
+      let d : drop 18 rest ≡ drop (at + 18) file = drop-drop 18 at file in
+      let step = rw (room, rows-took states at rest ts (256 - (n + 1)) r e, s .0, s .1, d) at (k .same) in
+      record { few = omega arith; inside = omega (arith, length-drop at file); shape = w ∙ ap cellsOf (sym rs); same = rw rs step }
+
+-- what the head and the records give together
+pub read-shut : (l : List ℕ) (r : Refusal) → headIn l ≡ Shut r → stopped r ≡ readFile l
+unfolding readFile
+read-shut l r e = rw e
+
+module _ (l : List ℕ) (s i : ℕ) (e : headIn l ≡ Opened s i) where
+  pub read-stop : (r : Refusal) → rowsFrom 256 s 8 (drop 8 l) [] ≡ refused r → stopped r ≡ readFile l
+  unfolding readFile
+  read-stop r f = rw (e, f)
+
+  pub read-found : (ts : List Transition) → rowsFrom 256 s 8 (drop 8 l) [] ≡ found ts → machine (record { states = s; initial = i; transitions = ts }) ≡ readFile l
+  unfolding readFile
+  read-found ts f = rw (e, f)
+
+-- the table value that is made of the count and the cells
+pub read-table : (l cells : List ℕ) (s i n : ℕ) → headIn l ≡ Opened s i → RowsOutcome (rowsFrom 256 s 8 (drop 8 l) []) (Count n) cells
+    → record { answer = Sound; table = record { states = s; initial = i; count = n; cells = cells } } ≡ readingOf (readFile l)
+read-table l cells s i n e o =
+    let m : Machine = record { states = s; initial = i; transitions = rows cells n } in
+    let r : readingOf (machine m) ≡ readingOf (readFile l) = ap readingOf (read-found l s i e (rows cells n) (o .0)) in
+    let c : cellsOf (rows cells n) ≡ cells = sym (o .1) in
+    let k : length (rows cells n) ≡ n = length-rows cells n in
+    rw (c, k) at r
