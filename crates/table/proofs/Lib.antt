@@ -5,3 +5,4 @@ pub mod TestLaws
 pub mod FrameLaws
 pub mod CellLaws
 pub mod ReadLaws
+pub mod WriteLaws

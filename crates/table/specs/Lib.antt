@@ -3,3 +3,4 @@ pub mod Rows
 pub mod Check
 pub mod Tests
 pub mod File
+pub mod Write

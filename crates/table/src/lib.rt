@@ -4,6 +4,7 @@ ghost use Rattle.table.specs.Refusal.{refusalNumber, refusalPlace};
 ghost use Rattle.table.specs.Rows.{rowOf};
 ghost use Rattle.table.specs.Check.{checkOf};
 ghost use Rattle.table.specs.File.{readingOf, readFile};
+ghost use Rattle.table.specs.Write.{WriteOutcome};
 
 mod ranges;
 mod reader;
@@ -172,4 +173,23 @@ pub fn read_table(file: &[u8]) -> Reading
             }
         }
     }
+}
+
+// The file of a table: its bytes, the places after them as they were. A refusal writes nothing.
+pub fn write_table(t: Table, out: &mut [u8]) -> Written
+    ensures { λ r. ⌜ WriteOutcome t (now (out .entry)) r (now (out .exit)) ⌝ }
+{
+    let checked = check(t);
+    if let Checked::Refused(r) = checked {
+        return Written::Refused(r);
+    }
+    let n = t.count;
+    let size = 12 + n * 18;
+    if out.len() < size {
+        return Written::Refused(Refusal::NoRoom);
+    }
+    writer::put_head(out, t.states, t.initial);
+    writer::put_rows(&t.cells, n, out);
+    writer::put_end(out, 8 + n * 18);
+    Written::Bytes(size)
 }

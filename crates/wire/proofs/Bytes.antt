@@ -54,6 +54,27 @@ placed-fits l k new h = rw (le-leb _ _ h)
 pub length-placed : (l : List ℕ) (k : ℕ) (new : List ℕ) → k + length new ≤ length l → length (placed l k new) ≡ length l
 length-placed l k new h = rw (placed-fits l k new h) (simp (length-append, length-take, length-drop) (omega arith))
 
+pub placed-none : (l : List ℕ) (k : ℕ) → k ≤ length l → placed l k [] ≡ l
+placed-none l k h =
+    let e : k + 0 ≡ k = omega arith in
+    let f : k + length {A = ℕ} [] ≤ length l = omega arith in
+    placed-fits l k [] f ∙ rw e (take-append-drop k l)
+
+-- two stores, the second right behind the first, are one
+pub placed-more : (l : List ℕ) (k n : ℕ) (a b : List ℕ) → n ≡ k + length a → n + length b ≤ length l → placed (placed l k a) n b ≡ placed l k (a ++ b)
+placed-more l k n a b e h =
+    let done : List ℕ = take k l ++ a in
+    let la : length (a ++ b) ≡ length a + length b = length-append a b in
+    let p : placed l k a ≡ done ++ drop (k + length a) l = placed-fits l k a (omega arith) ∙ sym (append-assoc (take k l) a (drop (k + length a) l)) in
+    let ld : length done ≡ n = length-append (take k l) a ∙ simp length-take (omega arith) in
+    let len : length (placed l k a) ≡ length l = length-placed l k a (omega arith) in
+    let q : placed (placed l k a) n b ≡ take n (placed l k a) ++ (b ++ drop (n + length b) (placed l k a)) = placed-fits (placed l k a) n b (omega arith) in
+    let f : n + length b ≡ length done + length b = omega arith in
+    let g : k + length a + length b ≡ k + length (a ++ b) = omega arith in
+    let d : drop (n + length b) (done ++ drop (k + length a) l) ≡ drop (k + length (a ++ b)) l =
+    (rw f (drop-append-add done (drop (k + length a) l) (length b) ∙ drop-drop (length b) (k + length a) l ∙ ap (λ (x : ℕ). drop x l) g)) in
+    q ∙ rw (p, take-at done (drop (k + length a) l) n ld, d, placed-fits l k (a ++ b) (omega arith)) (simp append-assoc)
+
 -- a loop that stores numbers: i of them are stored
 unfoldable pub storing : ℕ → List ℕ → ℕ → List ℕ → ℕ → List ℕ
 storing w l k xs i = take k l ++ (bytes w (take i xs) ++ drop (k + i * w) l)
