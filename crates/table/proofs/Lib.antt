@@ -6,3 +6,4 @@ pub mod FrameLaws
 pub mod CellLaws
 pub mod ReadLaws
 pub mod WriteLaws
+pub mod FileLaws

@@ -1,14 +1,17 @@
 -- Laws of numbers in bytes, once for every width w.
 use mathlib.Core.Path.{_≡_, refl, sym, ap, _∙_}
 use mathlib.Core.Bool.{cond}
+use mathlib.Core.Logic.{dite}
 use mathlib.Core.List.{List, [], _∷_, _++_, append-assoc, append-nil}
-use Prim.Native.Nat.{ℕ, zero, suc, _+_, _*_, _-_, _%_, _/_, _≤_, _<_}
+use Prim.Native.Nat.{ℕ, zero, suc, _+_, _*_, _-_, _%_, _/_, _^_, _≤_, _<_}
 use native.Mathlib.Numerals.{add-one}
+use native.Mathlib.Decide.{decLt}
+use native.Mathlib.Nat.{pow-succ'}
 use native.Mathlib.Omega.{arith}
 use borrow.Author.Tests.{le-leb, lt-leb}
 use lib.ListN.{length, take, drop, getD, set, length-append, length-take, length-drop, take-append-drop, List·getD-eq-default}
-use lib.Seq.{sets, sets-eq, take-at, drop-at, drop-append-add, drop-drop, take-suc, take-length, getD-append-add, getD-drop}
-use Rattle.wire.specs.Bytes.{le, digits, bytes, placed}
+use lib.Seq.{sets, sets-eq, take-at, take-add, drop-at, drop-append-add, drop-drop, drop-cons, take-suc, take-length, getD-append-add, getD-drop, getD-take}
+use Rattle.wire.specs.Bytes.{le, digits, bytes, placed, Bytes}
 
 pub length-digits : (w x : ℕ) → length (digits w x) ≡ w
 length-digits zero x = refl
@@ -36,6 +39,79 @@ le-drop (suc w) l k j i e =
     let g : getD (drop k l) j 0 ≡ getD l i 0 = getD-drop k l j 0 ∙ ap (λ (n : ℕ). getD l n 0) (sym e) in
     omega (arith, le-drop w l k (j + 1) (i + 1) (omega arith))
 
+-- the same where the part has an end
+pub le-take : (w : ℕ) (l : List ℕ) (n j : ℕ) → j + w ≤ n → le w (take n l) j ≡ le w l j
+le-take zero l n j h = refl
+le-take (suc w) l n j h = rw (getD-take n l j 0 (omega arith), le-take w l n (j + 1) (omega arith))
+
+pub le-part : (w : ℕ) (l : List ℕ) (n k j : ℕ) → j + w ≤ n → le w (take n (drop k l)) j ≡ le w l (k + j)
+le-part w l n k j h = le-take w (drop k l) n j h ∙ le-drop w l k j (k + j) refl
+
+pub bytes-drop : (k : ℕ) (l : List ℕ) → Bytes l → Bytes (drop k l)
+bytes-drop k l b i = rw (getD-drop k l i 0) (b (k + i))
+
+digits-bytes : (w x : ℕ) (l : List ℕ) → Bytes l → Bytes (digits w x ++ l)
+digits-bytes zero x l b i = b i
+digits-bytes (suc w) x l b zero = omega arith
+digits-bytes (suc w) x l b (suc i) = digits-bytes w (x / 256) l b i
+
+pub bytes-bytes : (w : ℕ) (xs : List ℕ) → Bytes (bytes w xs)
+unfolding bytes
+bytes-bytes w [] i = omega arith
+bytes-bytes w (x ∷ xs) i = digits-bytes w x (bytes w xs) (bytes-bytes w xs) i
+
+-- a number that was read is written as it stood
+pub digits-le : (w : ℕ) (l : List ℕ) (k : ℕ) → Bytes l → k + w ≤ length l → digits w (le w l k) ≡ take w (drop k l)
+digits-le zero l k b h = refl
+digits-le (suc w) l k b h =
+    let g : getD l k 0 < 256 = b k in
+    let low : (getD l k 0 + le w l (k + 1) * 256) % 256 ≡ getD l k 0 = omega arith in
+    let high : (getD l k 0 + le w l (k + 1) * 256) / 256 ≡ le w l (k + 1) = omega arith in
+    rw (low, high, digits-le w l (k + 1) b (omega arith), drop-cons l k 0 (omega arith), add-one k)
+
+-- a number that was written is read as it was
+pub le-digits : (w x : ℕ) (rest : List ℕ) → x < 256 ^ w → le w (digits w x ++ rest) 0 ≡ x
+le-digits zero x rest h = omega arith
+le-digits (suc w) x rest h =
+    let l : List ℕ = digits (suc w) x ++ rest in
+    let r : le w (drop 1 l) 0 ≡ le w l (0 + 1) = le-drop w l 1 0 (0 + 1) (omega arith) in
+    omega (arith, le-digits w (x / 256) rest (omega (arith, pow-succ' 256 w)))
+
+-- n numbers in a row, and back
+abbrev pub les : ℕ → ℕ → List ℕ → ℕ → List ℕ
+les w zero l k = []
+les w (suc n) l k = le w l k ∷ les w n l (k + w)
+
+pub bytes-les : (w n : ℕ) (l : List ℕ) (k : ℕ) → Bytes l → k + n * w ≤ length l → bytes w (les w n l k) ≡ take (n * w) (drop k l)
+unfolding bytes
+bytes-les w zero l k b h = let e : 0 * w ≡ 0 = omega arith in rw e
+bytes-les w (suc n) l k b h =
+    let e : suc n * w ≡ w + n * w = omega arith in
+    rw (e, take-add w (n * w) (drop k l), drop-drop w k l, digits-le w l k b (omega arith), bytes-les w n l (k + w) b (omega arith))
+
+-- the first n numbers and what follows them are the whole
+pub les-front : (w n : ℕ) (l : List ℕ) → Bytes l → n * w ≤ length l → bytes w (les w n l 0) ++ drop (n * w) l ≡ l
+les-front w n l b h = rw (bytes-les w n l 0 b (omega arith)) (take-append-drop (n * w) l)
+
+-- each fits w bytes
+abbrev pub Fits : ℕ → List ℕ → Type 0
+Fits w [] = Unit {0}
+Fits w (x ∷ xs) = (x < 256 ^ w) × Fits w xs
+
+les-drop : (w n : ℕ) (l : List ℕ) (k j i : ℕ) → i ≡ k + j → les w n (drop k l) j ≡ les w n l i
+les-drop w zero l k j i e = refl
+les-drop w (suc n) l k j i e = rw (le-drop w l k j i e, les-drop w n l k (j + w) (i + w) (omega arith))
+
+pub les-bytes : (w : ℕ) (xs rest : List ℕ) → Fits w xs → les w (length xs) (bytes w xs ++ rest) 0 ≡ xs
+unfolding bytes
+les-bytes w [] rest f = refl
+les-bytes w (x ∷ xs) rest f =
+    let r : List ℕ = bytes w xs ++ rest in
+    let s : (digits w x ++ bytes w xs) ++ rest ≡ digits w x ++ r = append-assoc (digits w x) (bytes w xs) rest in
+    let next : les w (length xs) r 0 ≡ les w (length xs) (digits w x ++ r) (0 + w) =
+    rw (drop-at (digits w x) r w (length-digits w x)) at (les-drop w (length xs) (digits w x ++ r) w 0 (0 + w) (omega arith)) in
+    rw (s, le-digits w x r (f .0), ← next, les-bytes w xs rest (f .1))
+
 -- four bytes are two pairs
 pub le-join : (l : List ℕ) (k : ℕ) → le 4 l k ≡ le 2 l k + le 2 l (k + 2) * 65536
 le-join l k =
@@ -53,6 +129,10 @@ placed-fits l k new h = rw (le-leb _ _ h)
 
 pub length-placed : (l : List ℕ) (k : ℕ) (new : List ℕ) → k + length new ≤ length l → length (placed l k new) ≡ length l
 length-placed l k new h = rw (placed-fits l k new h) (simp (length-append, length-take, length-drop) (omega arith))
+
+-- the memory keeps its length, whether or not there was room
+pub placed-long : (l : List ℕ) (k : ℕ) (new : List ℕ) → length (placed l k new) ≡ length l
+placed-long l k new = dite (decLt (length l) (k + length new)) (λ h. ap length (sym (placed-not l k new h))) (λ h. length-placed l k new (omega arith))
 
 pub placed-none : (l : List ℕ) (k : ℕ) → k ≤ length l → placed l k [] ≡ l
 placed-none l k h =

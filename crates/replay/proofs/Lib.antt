@@ -1,0 +1,7 @@
+pub mod WordLaws
+pub mod GapLaws
+pub mod HoleLaws
+pub mod LaidLaws
+pub mod PlayLaws
+pub mod ReplayLaws
+pub mod OutcomeLaws

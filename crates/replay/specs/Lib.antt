@@ -1,0 +1,4 @@
+pub mod Play
+pub mod Tested
+pub mod Tried
+pub mod Laid

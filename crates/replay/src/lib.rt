@@ -1,0 +1,59 @@
+// Replay of a timed word on a trace.
+use table::Checked;
+use table::Refusal;
+use table::Table;
+ghost use mathlib.Core.Path.{_≡_};
+ghost use Rattle.replay.specs.Play.{replayTests, ReplayOutcome};
+ghost use Rattle.replay.specs.Tested.{Answers};
+
+mod gaps;
+mod responses;
+
+pub enum Replayed {
+    Played,
+    Refused(Refusal),
+}
+
+// The tests that look at no gap, in rising order of their numbers.
+fn tested(t: Table, trace: &[u16], stamps: &[u32], order: &[u16], due: &[u32]) -> Checked
+    ensures { λ r. ⌜ Answers (replayTests t (now (trace .entry)) (now (stamps .entry)) (now (order .entry)) (now (due .entry))) r ⌝ }
+{
+    if let Checked::Refused(r) = table::check(t) {
+        return Checked::Refused(r);
+    }
+    if !trace::is_trace(&t.cells, t.count, trace) {
+        return Checked::Refused(Refusal::NoTrace);
+    }
+    if stamps.len() != trace.len() {
+        return Checked::Refused(Refusal::Uneven);
+    }
+    if order.len() < trace.len() {
+        return Checked::Refused(Refusal::NoRoom);
+    }
+    if due.len() < trace.len() {
+        return Checked::Refused(Refusal::NoRoom);
+    }
+    Checked::Sound
+}
+
+// Steps in response order, counted from 1, and beside each its due time in 1/256 tick since the start.
+pub fn replay(
+    t: Table,
+    trace: &[u16],
+    start: u32,
+    stamps: &[u32],
+    order: &mut [u16],
+    due: &mut [u32],
+) -> Replayed
+    ensures { λ r. ⌜ ReplayOutcome t (now (trace .entry)) start (now (stamps .entry)) (now (order .entry)) (now (due .entry)) r (now (order .exit)) (now (due .exit)) ⌝ }
+{
+    if let Checked::Refused(r) = tested(t, trace, stamps, order, due) {
+        return Replayed::Refused(r);
+    }
+    let outside = gaps::first_outside(&t.cells, trace, start, stamps);
+    if 0 < outside {
+        return Replayed::Refused(Refusal::Outside(outside));
+    }
+    responses::play(&t.cells, trace, start, stamps, order, due);
+    Replayed::Played
+}
