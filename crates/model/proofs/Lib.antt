@@ -5,6 +5,7 @@ pub mod Pair
 pub mod Sorting
 pub mod Conversion
 pub mod Limits
+pub mod StampLaws
 pub mod Paths
 pub mod Reach
 pub mod Split

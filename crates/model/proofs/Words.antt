@@ -54,7 +54,7 @@ sum-early : (l : List Transition) → total earlyGap l ≡ total (λ t. t .u) l 
 unfolding earlyGap
 sum-early l = omega (arith, total-plus (λ t. t .u * 256) (λ t. 1) l, total-scale (λ t. t .u) 256 l, total-const 1 l)
 
-inside-early : (k m i : ℕ) (t : Transition) → k < i → i ≤ m → earlyGapAt k m i t ≡ earlyGap t
+pub inside-early : (k m i : ℕ) (t : Transition) → k < i → i ≤ m → earlyGapAt k m i t ≡ earlyGap t
 unfolding earlyGapAt
 inside-early k m i t h j = rw (lt-ltb k i h, le-leb i m j)
 

@@ -1,0 +1,4 @@
+pub mod StepLaws
+pub mod PairLaws
+pub mod WordLaws
+pub mod JudgeLaws

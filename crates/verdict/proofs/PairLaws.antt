@@ -1,0 +1,171 @@
+-- The search for the least turning pair, over the steps of a trace.
+use mathlib.Core.Path.{_≡_, ap, _∙_}
+use mathlib.Core.Logic.{inl, inr, ⊎-elim, _↔_, dite}
+use mathlib.Core.List.{List, [], _∷_}
+use Prim.Native.Nat.{ℕ, suc, _+_, _-_, _≤_, _<_}
+use native.Mathlib.Omega.{arith}
+use native.Mathlib.Decide.{decLt}
+use native.Mathlib.Nat.{eq-or-lt-of-le}
+use lib.ListN.{length, getD, take, drop, length-drop}
+use lib.Seq.{take-suc, take-add, getD-drop}
+use Rattle.model.specs.Lists.{All, total, between}
+use Rattle.model.specs.Table.{Transition, InRange, at, none}
+use Rattle.model.specs.Span.{sumU, sumV, Criterion}
+use Rattle.model.proofs.Lists.{total-append, total-const, length-between, all-at, all-between, all-total}
+use Rattle.table.specs.declared.Row.{Row}
+use Rattle.table.specs.Rows.{said}
+use Rattle.verdict.specs.declared.pairs.Partner.the-variants.{With, Alone}
+use Rattle.verdict.specs.declared.pairs.Pair.the-variants.{At, Nowhere}
+use Rattle.verdict.specs.Steps.{named, Ready}
+use Rattle.verdict.specs.Pairs.{Between, PartnerOf, PairOf}
+use Rattle.verdict.proofs.StepLaws.{length-named}
+
+-- the sum over the steps after k and before m
+abbrev pub sofar : (Transition → ℕ) → List Transition → ℕ → ℕ → ℕ
+sofar f tr k m = total f (take (m - suc k) (drop (suc k) tr))
+
+-- one step more
+sum-next : (f : Transition → ℕ) (tr : List Transition) (k m : ℕ) → k < m → m < length tr → sofar f tr k m + f (at tr m) ≡ total f (between k m tr)
+sum-next f tr k m h i =
+    let p : ℕ = m - suc k in
+    let l : List Transition = drop (suc k) tr in
+    let e : m - k ≡ suc p = omega arith in
+    let g : getD l p none ≡ at tr m = getD-drop (suc k) tr p none ∙ (let q : suc k + p ≡ m = omega arith in rw q) in
+    rw (e, take-suc l p none (omega (arith, length-drop (suc k) tr)), g) (omega (arith, total-append f (take p l) (at tr m ∷ [])))
+
+-- a sum grows with its last step
+sum-grows : (f : Transition → ℕ) (tr : List Transition) (k m j : ℕ) → m ≤ j → total f (between k m tr) ≤ total f (between k j tr)
+sum-grows f tr k m j h =
+    let l : List Transition = drop (suc k) tr in
+    let e : j - k ≡ (m - k) + (j - k - (m - k)) = omega arith in
+    rw (e, take-add (m - k) (j - k - (m - k)) l) (omega (arith, total-append f (take (m - k) l) (take (j - k - (m - k)) (drop (m - k) l))))
+
+-- the search from k, whose delay is d, stands before step m: the sums over the steps between, none of which turns with k
+pub record Looked (c l : List ℕ) (k d m u v : ℕ) : Type 0 where
+  pub ready : Ready c l
+  pub delay : d ≡ at (named c l) k .d
+  pub after : k < m
+  pub near : m ≤ k + 239
+  pub within : m ≤ length l
+  pub low : u ≡ sofar (λ t. t .u) (named c l) k m
+  pub high : v ≡ sofar (λ t. t .v) (named c l) k m
+  pub none-yet : (j : ℕ) → j < m → Criterion (named c l) k j → ⊥
+
+module _ {c l : List ℕ} {k : ℕ} where
+  pub looked-first : Ready c l → k < length l → (s : Row) → said s ≡ at (named c l) k → Looked c l k (s .d) (k + 1) 0 0
+  looked-first r h s e =
+      let z : k + 1 - suc k ≡ 0 = omega arith in
+      record {
+        ready = r;
+        delay = ap (λ t. t .d) e;
+        after = omega arith;
+        near = omega arith;
+        within = omega arith;
+        low = rw z;
+        high = rw z;
+        none-yet = λ j b x. omega (arith, x .ordered);
+      }
+
+  pub looked-last : {d m u v : ℕ} → Looked c l k d m u v → length l ≤ m → PartnerOf (named c l) k Alone
+  looked-last seen h j x = seen .none-yet j (omega (arith, x .inside, length-named c l)) x
+
+-- the code looks at step m, whose row is s
+module _ {c l : List ℕ} {k d m u v : ℕ} (seen : Looked c l k d m u v) (here : m < length l) (s : Row) (es : said s ≡ at (named c l) m) where
+  abbrev tr : List Transition
+  tr = named c l
+
+  inside : m < length tr
+  inside = rw (length-named c l) here
+
+  next-low : u + s .u ≡ sumU tr k m
+  next-low = omega (arith, ap (λ t. t .u) es, sum-next (λ t. t .u) tr k m (seen .after) inside)
+
+  next-high : v + s .v ≡ sumV tr k m
+  next-high = omega (arith, ap (λ t. t .v) es, sum-next (λ t. t .v) tr k m (seen .after) inside)
+
+  -- the sums of at most 512 steps
+  pub next-small : (u + s .u ≤ 2096640) × (v + s .v ≤ 2096640) × (s .d ≤ 240)
+  next-small =
+      let b : List Transition = between k m tr in
+      let g : All (InRange (seen .ready .states)) b = all-between k m (seen .ready .ranged) in
+      let n : length b ≤ 512 = omega (arith, length-between k m tr inside, length-named c l) in
+      let most : total (λ t. 4095) b ≤ 2096640 = omega (arith, total-const 4095 b) in (
+        omega (arith, next-low, all-total (λ t. t .u) (λ t. 4095) (λ t x. omega (arith, x .wide, x .high)) g),
+        omega (arith, next-high, all-total (λ t. t .v) (λ t. 4095) (λ t x. x .high) g),
+        omega (arith, ap (λ t. t .d) es, all-at none (seen .ready .ranged) m inside),
+      )
+
+  -- the sum of u has reached k's d less the least d
+  pub none-later : d ≤ u + s .u + 1 → PartnerOf tr k Alone
+  none-later h j x =
+      dite (decLt j m) (λ a. seen .none-yet j a x) (λ b.
+      omega (arith, x .above, next-low, sum-grows (λ t. t .u) tr k m j (omega arith), all-at none (seen .ready .ranged) j (x .inside) .soon))
+
+  turns-so : Between (u + s .u) (v + s .v) d (s .d) ↔ Criterion tr k m
+  turns-so = (
+    λ b. record {
+      ordered = seen .after;
+      inside = inside;
+      above = omega (arith, next-low, ap (λ t. t .d) es);
+      below = omega (arith, next-high, ap (λ t. t .d) es);
+    },
+    λ x. record { above = omega (arith, next-low, ap (λ t. t .d) es); below = omega (arith, next-high, ap (λ t. t .d) es) },
+  )
+
+  pub turns-here : Between (u + s .u) (v + s .v) d (s .d) → PartnerOf tr k (With m)
+  turns-here b = (turns-so .0 b, λ j x. dite (decLt j m) (λ a. absurd (seen .none-yet j a x)) (λ b. omega arith))
+
+  -- each u is at least 1 and d at most 240: no more than 238 steps are passed
+  next-near : u + s .u + 1 < d → m - k ≤ 238
+  next-near h =
+      let b : List Transition = between k m tr in
+      let g : total (λ t. 1) b ≤ sumU tr k m = all-total (λ t. 1) (λ t. t .u) (λ t x. x .low) (all-between k m (seen .ready .ranged)) in
+      omega (
+        arith,
+        next-low,
+        total-const 1 b,
+        length-between k m tr inside,
+        all-at none (seen .ready .ranged) k (omega (arith, inside)),
+      )
+
+  pub looked-more : u + s .u + 1 < d → (Between (u + s .u) (v + s .v) d (s .d) → ⊥) → Looked c l k d (m + 1) (u + s .u) (v + s .v)
+  looked-more below f =
+      let e : m + 1 - suc k ≡ m - k = omega arith in
+      record {
+        ready = seen .ready;
+        delay = seen .delay;
+        after = omega arith;
+        near = omega (arith, next-near below);
+        within = omega arith;
+        low = rw e next-low;
+        high = rw e next-high;
+        none-yet = λ j h x. ⊎-elim
+            (λ (q : j ≡ m). f (turns-so .1 (rw q at x)))
+            (λ (a : j < m). seen .none-yet j a x)
+            (eq-or-lt-of-le (omega arith));
+      }
+
+-- the search over k stands at k: no step before it turns with another
+unfoldable pub Passed : List Transition → ℕ → Type 0
+Passed tr k = (i j : ℕ) → i < k → Criterion tr i j → ⊥
+
+pub passed-none : (tr : List Transition) → Passed tr 0
+unfolding Passed
+passed-none tr i j h = absurd (omega arith)
+
+module _ {tr : List Transition} {k : ℕ} (p : Passed tr k) where
+  pub passed-more : PartnerOf tr k Alone → Passed tr (k + 1)
+  unfolding Passed
+  passed-more a i j h c = ⊎-elim (λ (e : i ≡ k). a j (rw e at c)) (λ (l : i < k). p i j l c) (eq-or-lt-of-le (omega arith))
+
+  pub passed-all : length tr ≤ k → PairOf tr Nowhere
+  unfolding Passed
+  passed-all h i j c = p i j (omega (arith, c .ordered, c .inside)) c
+
+  pub least-here : (m : ℕ) → PartnerOf tr k (With m) → PairOf tr (At k m)
+  unfolding Passed
+  least-here m w = (
+    w .0,
+    λ i j c. dite (decLt i k) (λ l. absurd (p i j l c)) (λ n.
+        ⊎-elim (λ (e : k ≡ i). inr (e, w .1 j (rw e c))) inl (eq-or-lt-of-le (omega arith))),
+  )

@@ -1,0 +1,3 @@
+pub mod OnTrace
+pub mod Steps
+pub mod Pairs

@@ -1,0 +1,39 @@
+// Verdicts: on a trace.
+use crate::pairs::Pair;
+use table::Checked;
+use table::Refusal;
+use table::Table;
+ghost use mathlib.Core.Path.{_≡_};
+ghost use Rattle.verdict.specs.OnTrace.{TraceOutcome};
+
+mod pairs;
+mod steps;
+mod words;
+
+pub enum OnTrace {
+    Steady,
+    Turning(usize, usize),
+    Refused(Refusal),
+}
+
+// Whether two activating timings give different orders; if so, the least pair and the late and the early word.
+pub fn judge_trace(t: Table, trace: &[u16], stamps: &mut [u32]) -> OnTrace
+    ensures { λ r. ⌜ TraceOutcome t (now (trace .entry)) (now (stamps .entry)) r (now (stamps .exit)) ⌝ }
+{
+    let checked = table::check(t);
+    if let Checked::Refused(r) = checked {
+        return OnTrace::Refused(r);
+    }
+    if !trace::is_trace(&t.cells, t.count, trace) {
+        return OnTrace::Refused(Refusal::NoTrace);
+    }
+    if stamps.len() < 2 * trace.len() {
+        return OnTrace::Refused(Refusal::NoRoom);
+    }
+    let pair = pairs::least_pair(&t.cells, trace);
+    let Pair::At(k, m) = pair else {
+        return OnTrace::Steady;
+    };
+    words::write_words(&t.cells, trace, k, m, stamps);
+    OnTrace::Turning(k + 1, m + 1)
+}
