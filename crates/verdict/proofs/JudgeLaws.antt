@@ -19,13 +19,15 @@ use Rattle.table.specs.Tests.{Test, Passes}
 use Rattle.table.proofs.TestLaws.{passes-fails, fails-only, sound-valid, sound-passes, sound-fails, refused-fails}
 use Rattle.trace.specs.Named.{stepsIn, TraceIn}
 use Rattle.trace.proofs.TraceLaws.{handed-ranged}
+use Rattle.words.specs.Shows.{named, Ready, wordsLeft}
+use Rattle.words.proofs.StepLaws.{length-named}
+use Rattle.words.proofs.WordLaws.{words-plain}
 use Rattle.verdict.specs.declared.OnTrace.{OnTrace}
 use Rattle.verdict.specs.declared.OnTrace.the-variants.{Steady, Turning as TurningAt, Refused}
 use Rattle.verdict.specs.declared.pairs.Pair.the-variants.{At, Nowhere}
 use Rattle.verdict.specs.OnTrace.{traceTests, LeastPair, shownStamps, TraceOutcome}
-use Rattle.verdict.specs.Steps.{named, Ready}
 use Rattle.verdict.specs.Pairs.{PairOf}
-use Rattle.verdict.proofs.StepLaws.{length-named, named-steps, named-ready}
+use Rattle.verdict.proofs.StepLaws.{named-steps, named-ready}
 
 -- the tests after those of the table
 abbrev own : Table → List ℕ → List ℕ → List Test
@@ -65,10 +67,14 @@ module _ {t : Table} {trace : List ℕ} (h : Tested t trace) where
       passes : Passes (traceTests t trace stamps)
       passes = sound-passes t (own t trace stamps) (h .sound) (h .handed .1, (room, tt))
 
+      -- no stamp of a trace wraps
+      plain : (k m : ℕ) → wordsLeft (t .cells) trace k m stamps ≡ shownStamps (stepsIn t trace) k m stamps
+      plain k m = rw same at (words-plain (t .cells) trace k m stamps ready room)
+
       pub steady : PairOf (named (t .cells) trace) Nowhere → TraceOutcome t trace stamps Steady stamps
       steady p = (passes, (λ x. let c = turning-law good .0 x in (rw same at p) (c .0) (c .1) (c .2)), refl)
 
-      pub turning : (k m : ℕ) (after : List ℕ) → PairOf (named (t .cells) trace) (At k m) → after ≡ shownStamps (named (t .cells) trace) k m stamps
+      pub turning : (k m : ℕ) (after : List ℕ) → PairOf (named (t .cells) trace) (At k m) → after ≡ wordsLeft (t .cells) trace k m stamps
           → TraceOutcome t trace stamps (TurningAt (k + 1) (m + 1)) after
       turning k m after p w =
           let q : PairOf (stepsIn t trace) (At k m) = rw same at p in
@@ -82,7 +88,7 @@ module _ {t : Table} {trace : List ℕ} (h : Tested t trace) where
             second-step = add-one m;
             pair = record { turns = turns-law good k m .1 (q .0); least = λ i j x. q .1 i j (turns-law good i j .0 x) };
             shows = record { act-late = s .0; act-early = s .1; kept = s .2; turned = s .3 };
-            written = rw same at w;
+            written = w ∙ plain k m;
           }
 
 -- two pairs that are least are one

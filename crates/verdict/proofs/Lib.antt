@@ -1,4 +1,3 @@
 pub mod StepLaws
 pub mod PairLaws
-pub mod WordLaws
 pub mod JudgeLaws

@@ -13,12 +13,12 @@ use Rattle.model.specs.Table.{Transition, InRange, at, none}
 use Rattle.model.specs.Span.{sumU, sumV, Criterion}
 use Rattle.model.proofs.Lists.{total-append, total-const, length-between, all-at, all-between, all-total}
 use Rattle.table.specs.declared.Row.{Row}
-use Rattle.table.specs.Rows.{said}
+use Rattle.table.specs.Rows.{rowOf, said}
+use Rattle.words.specs.Shows.{named, Ready}
+use Rattle.words.proofs.StepLaws.{length-named, step-named}
 use Rattle.verdict.specs.declared.pairs.Partner.the-variants.{With, Alone}
 use Rattle.verdict.specs.declared.pairs.Pair.the-variants.{At, Nowhere}
-use Rattle.verdict.specs.Steps.{named, Ready}
 use Rattle.verdict.specs.Pairs.{Between, PartnerOf, PairOf}
-use Rattle.verdict.proofs.StepLaws.{length-named}
 
 -- the sum over the steps after k and before m
 abbrev pub sofar : (Transition → ℕ) → List Transition → ℕ → ℕ → ℕ
@@ -52,12 +52,12 @@ pub record Looked (c l : List ℕ) (k d m u v : ℕ) : Type 0 where
   pub none-yet : (j : ℕ) → j < m → Criterion (named c l) k j → ⊥
 
 module _ {c l : List ℕ} {k : ℕ} where
-  pub looked-first : Ready c l → k < length l → (s : Row) → said s ≡ at (named c l) k → Looked c l k (s .d) (k + 1) 0 0
+  pub looked-first : Ready c l → k < length l → (s : Row) → s ≡ rowOf c (getD l k 0) → Looked c l k (s .d) (k + 1) 0 0
   looked-first r h s e =
       let z : k + 1 - suc k ≡ 0 = omega arith in
       record {
         ready = r;
-        delay = ap (λ t. t .d) e;
+        delay = ap (λ t. t .d) (step-named c l k h s e);
         after = omega arith;
         near = omega arith;
         within = omega arith;
@@ -70,9 +70,12 @@ module _ {c l : List ℕ} {k : ℕ} where
   looked-last seen h j x = seen .none-yet j (omega (arith, x .inside, length-named c l)) x
 
 -- the code looks at step m, whose row is s
-module _ {c l : List ℕ} {k d m u v : ℕ} (seen : Looked c l k d m u v) (here : m < length l) (s : Row) (es : said s ≡ at (named c l) m) where
+module _ {c l : List ℕ} {k d m u v : ℕ} (seen : Looked c l k d m u v) (here : m < length l) (s : Row) (read : s ≡ rowOf c (getD l m 0)) where
   abbrev tr : List Transition
   tr = named c l
+
+  es : said s ≡ at tr m
+  es = step-named c l m here s read
 
   inside : m < length tr
   inside = rw (length-named c l) here

@@ -1,30 +1,21 @@
 -- The steps that the code reads are those that a trace names in the table.
 use mathlib.Core.Path.{_≡_, sym, _∙_}
 use mathlib.Core.List.{List}
-use Prim.Native.Nat.{ℕ, _<_}
+use Prim.Native.Nat.{ℕ}
 use native.Mathlib.Omega.{arith}
-use lib.ListN.{length, getD, length-map}
+use lib.ListN.{length}
 use lib.Seq.{ext-getD}
-use Rattle.model.specs.Table.{at, none}
+use Rattle.model.specs.Table.{none}
 use Rattle.model.specs.Trace.{Handed}
-use Rattle.model.proofs.Lists.{getD-map}
 use Rattle.table.specs.declared.Table.{Table}
 use Rattle.table.specs.declared.Checked.the-variants.{Sound}
-use Rattle.table.specs.Rows.{rowOf, rows, said}
+use Rattle.table.specs.Rows.{rows}
 use Rattle.table.specs.Check.{checkOf}
 use Rattle.table.proofs.TestLaws.{sound-valid}
 use Rattle.trace.specs.Named.{stepsIn}
 use Rattle.trace.proofs.TraceLaws.{length-steps-in, row-steps-in, handed-ranged}
-use Rattle.verdict.specs.Steps.{named, Ready}
-
-module _ (c l : List ℕ) where
-  pub length-named : length (named c l) ≡ length l
-  unfolding named
-  length-named = length-map l (λ i. said (rowOf c i))
-
-  pub at-named : (i : ℕ) → i < length l → said (rowOf c (getD l i 0)) ≡ at (named c l) i
-  unfolding named
-  at-named i h = sym (getD-map (λ i. said (rowOf c i)) 0 none l i h)
+use Rattle.words.specs.Shows.{named, Ready}
+use Rattle.words.proofs.StepLaws.{length-named, at-named}
 
 -- a trace of a table that was checked
 module _ (t : Table) (l : List ℕ) (sound : checkOf t ≡ Sound) (h : Handed (rows (t .cells) (t .count)) l) where

@@ -1,3 +1,2 @@
 pub mod OnTrace
-pub mod Steps
 pub mod Pairs

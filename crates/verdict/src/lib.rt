@@ -7,8 +7,6 @@ ghost use mathlib.Core.Path.{_≡_};
 ghost use Rattle.verdict.specs.OnTrace.{TraceOutcome};
 
 mod pairs;
-mod steps;
-mod words;
 
 pub enum OnTrace {
     Steady,

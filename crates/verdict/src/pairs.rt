@@ -1,9 +1,8 @@
 // The least pair of steps that turns.
-use crate::steps::step;
 ghost use Prim.Native.Nat.{_+_, _^_, _<_};
 ghost use lib.ListN.{length};
 ghost use Rattle.trace.specs.Named.{Judged};
-ghost use Rattle.verdict.specs.Steps.{named, Ready};
+ghost use Rattle.words.specs.Shows.{named, Ready};
 ghost use Rattle.verdict.specs.Pairs.{Between, PartnerOf, PairOf};
 
 // The step that turns with another.
@@ -37,12 +36,12 @@ pub(crate) fn partner_of(cells: &[u16; 1792], trace: &[u16], k: usize) -> Partne
     requires { ⌜ (k < length (now trace)) × Ready (now cells) (now trace) ⌝ }
     ensures { λ r. ⌜ PartnerOf (named (now (cells .entry)) (now (trace .entry))) k r ⌝ }
 {
-    let d = step(cells, trace, k).d as u32;
+    let d = words::step(cells, trace, k).d as u32;
     let mut u: u32 = 0;
     let mut v: u32 = 0;
     let mut m = k + 1;
     while m < trace.len() {
-        let s = step(cells, trace, m);
+        let s = words::step(cells, trace, m);
         u += s.u as u32;
         v += s.v as u32;
         // Every d is at least 1 and the sum of u grows, so no later step turns either.

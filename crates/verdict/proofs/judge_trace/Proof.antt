@@ -8,9 +8,9 @@ use borrow.Author.Tests.{not-true, not-false}
 use Rattle.table.specs.declared.Table.{Table}
 use Rattle.table.specs.declared.Checked.{Checked}
 use Rattle.table.proofs.Checked.{the-type as checked-type}
+use Rattle.words.specs.Shows.{named}
 use Rattle.verdict.specs.declared.pairs.Pair.{Pair}
 use Rattle.verdict.proofs.pairs.Pair.{the-type as pair-type}
-use Rattle.verdict.specs.Steps.{named}
 use Rattle.verdict.specs.Pairs.{PairOf}
 use Rattle.verdict.proofs.JudgeLaws.{Tested, no-table, no-trace, no-room, ready, pair-near, steady, turning}
 use Rattle.verdict.proofs.judge_trace.Statement.{statement}
@@ -20,7 +20,7 @@ use Rattle.verdict.proofs.judge_trace.Lts as lts
 use Rattle.table.proofs.check.Reads as check-reads
 use Rattle.trace.proofs.is_trace.Reads as is-trace-reads
 use Rattle.verdict.proofs.pairs.least_pair.Reads as least-pair-reads
-use Rattle.verdict.proofs.words.write_words.Reads as write-words-reads
+use Rattle.words.proofs.write_words.Reads as write-words-reads
 
 -- the tags that the matches test
 is-sound : (r : Checked) → tagOf checked-type r ≡ 0 → r ≡ Checked.Sound
@@ -118,9 +118,7 @@ returns-4 c =
     steady (tested (d .before)) (stamps (d .before)) (omega (arith, d .if2 .left)) (rw (is-nowhere (p .result) (c .before .match2 .keys2)) at (p .ensures))
 
 write-words-requires : tie.Need-write-words-requires
-write-words-requires c κs =
-    let d = c .before .before .before .before .before .before .before .before .before in
-    (omega (arith, d .if2 .left), ready (tested (d .before)))
+write-words-requires c κs = search needs
 
 add-t13 : tie.Need-add-t13
 add-t13 c = omega (arith, near (c .before .before .before .before .before .before .before))

@@ -4,10 +4,10 @@ use mathlib.Core.Path.{_≡_, refl}
 use Prim.Native.Nat.{_≤_, _-_}
 use lib.ListN.{length}
 use denote.Enum.Declared.{tagOf}
+use Rattle.words.specs.Shows.{named}
+use Rattle.words.proofs.StepLaws.{length-named}
 use Rattle.verdict.specs.declared.pairs.Partner.{Partner}
 use Rattle.verdict.proofs.pairs.Partner.{the-type}
-use Rattle.verdict.specs.Steps.{named}
-use Rattle.verdict.proofs.StepLaws.{length-named}
 use Rattle.verdict.proofs.PairLaws.{Passed, passed-none, passed-more, passed-all, least-here}
 use Rattle.verdict.proofs.pairs.least_pair.Statement.{statement}
 use Rattle.verdict.proofs.pairs.least_pair.Tie as tie
