@@ -1,0 +1,10 @@
+pub mod SoundLaws
+pub mod ReachLaws
+pub mod RoundLaws
+pub mod SplitLaws
+pub mod WalkLaws
+pub mod BestLaws
+pub mod EndLaws
+pub mod BackLaws
+pub mod ShownLaws
+pub mod DecideLaws

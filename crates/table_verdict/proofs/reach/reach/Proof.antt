@@ -1,0 +1,92 @@
+-- The loop keeps that the rounds before r are over. The measure falls since a round is made only up to the highest mark, at most 32.
+use borrow.Author.Needs.{needs}
+use native.Mathlib.Omega.{arith}
+use mathlib.Core.Path.{_≡_, refl, ap}
+use Prim.Native.Nat.{_≤_, _-_}
+use lib.ListN.{length}
+use Rattle.table.specs.Rows.{rows}
+use Rattle.table.proofs.RowLaws.{length-rows}
+use Rattle.table_verdict.specs.Reach.{Starts}
+use Rattle.table_verdict.specs.Rounds.{Round}
+use Rattle.table_verdict.proofs.RoundLaws.{first-round, first-marks, round-over, start-kept, rounds-reach}
+use Rattle.table_verdict.proofs.reach.reach.Statement.{statement}
+use Rattle.table_verdict.proofs.reach.reach.Tie as tie
+
+abbrev Inv-loop : tie.InvT-loop
+Inv-loop cells count initial dist₀ via₀ start top₀ r₀ dist via top r =
+    (top ≤ r) × (length dist ≡ length dist₀) × (length via ≡ length via₀) × Round (rows cells count) dist via r 0 top
+    × Starts initial dist
+
+abbrev μ-loop : tie.MeasureT-loop
+μ-loop cells count initial dist₀ via₀ start top₀ r₀ dist via top r = 33 - r
+
+mul-dist : tie.Need-mul-dist Inv-loop μ-loop
+mul-dist c = search needs
+
+slice-write-dist : tie.Need-slice-write-dist Inv-loop μ-loop
+slice-write-dist c = omega (arith, ap length (c .before .before .pre .2))
+
+loop-holds : tie.Need-loop-holds Inv-loop μ-loop
+loop-holds c =
+    let s = c .before .before in
+    let a = s .args in
+    let ts = rows (a .cells .now) (a .count) in
+    let p = s .pre in (
+      omega arith,
+      refl,
+      refl,
+      first-round ts (a .dist .now) (a .via .now) (a .initial) (p .2) (p .3) (p .1),
+      first-marks ts (a .dist .now) (a .via .now) (a .initial) (p .2) (p .3) (p .1),
+    )
+
+round-requires : tie.Need-round-requires Inv-loop μ-loop
+round-requires c κs =
+    let s = c .before .before .before .before .before .before in
+    let l = c .before .before .before .loop in
+    let e : l .top ≡ l .r = omega arith in
+    (s .pre .0, rw e at (l .inv .3))
+
+add-r : tie.Need-add-r Inv-loop μ-loop
+add-r c = search needs
+
+loop-less : tie.Need-loop-less Inv-loop μ-loop
+loop-less c = search needs
+
+loop-again : tie.Need-loop-again Inv-loop μ-loop
+loop-again c =
+    let s = c .before .before .before .before .before .before .before .before .before .before .before in
+    let l = c .before .before .before .before .before .before .before .before .loop in
+    let w = c .before .before .before .before .round .ensures in
+    let n : length (rows (s .args .cells .now) (s .args .count)) ≡ s .args .count = length-rows (s .args .cells .now) (s .args .count) in (
+      omega (arith, w .0 .near),
+      omega (arith, w .0 .linked .marks, l .inv .3 .linked .marks),
+      omega (arith, w .0 .linked .ways, l .inv .3 .linked .ways),
+      round-over (rw n (w .0)),
+      start-kept (w .1) (l .inv .4),
+    )
+
+same-length : tie.Need-same-length Inv-loop μ-loop
+same-length c = search needs
+
+same-length-2 : tie.Need-same-length-2 Inv-loop μ-loop
+same-length-2 c = search needs
+
+returns : tie.Need-returns Inv-loop μ-loop
+returns c = rounds-reach (c .before .loop .inv .3) (c .loop-test .left) (c .before .loop .inv .4)
+
+pub reach-spec : {M : Type 1} → statement M
+reach-spec =
+    tie.close
+    (tie.spec
+    Inv-loop
+    μ-loop
+    mul-dist
+    slice-write-dist
+    loop-holds
+    round-requires
+    add-r
+    loop-less
+    loop-again
+    same-length
+    same-length-2
+    returns)

@@ -1,0 +1,124 @@
+-- The loop keeps that no number passed makes a pair with i.
+use borrow.Author.Needs.{needs}
+use native.Mathlib.Omega.{arith}
+use mathlib.Core.Path.{_≡_, sym, ap, _∙_}
+use Prim.Native.Nat.{ℕ, _≤_, _<_, _-_}
+use lib.ListN.{length}
+use native.Mathlib.Nat.{pos-of-ne-zero}
+use borrow.Author.Count.{below-more}
+use Rattle.model.specs.Table.{Transition, at}
+use Rattle.table.specs.Rows.{rows}
+use Rattle.table.proofs.RowLaws.{length-rows}
+use Rattle.table_verdict.specs.Reach.{mark}
+use Rattle.table_verdict.specs.Split.{MarkedPair}
+use Rattle.table_verdict.proofs.SoundLaws.{row-said, row-leaves}
+use Rattle.table_verdict.proofs.SplitLaws.{decides-true, decides-false, partner-none}
+use Rattle.table_verdict.proofs.split.partner.Statement.{statement}
+use Rattle.table_verdict.proofs.split.partner.Tie as tie
+
+abbrev Inv-loop : tie.InvT-loop
+Inv-loop cells count dist i row from j₀ j = (i < j) × (j ≤ count) × ((y : ℕ) → y < j → MarkedPair (rows cells count) dist i y → ⊥)
+
+abbrev μ-loop : tie.MeasureT-loop
+μ-loop cells count dist i row from j₀ j = count - j
+
+row-of-requires : tie.Need-row-of-requires Inv-loop μ-loop
+row-of-requires c κs = search needs
+
+cast-from : tie.Need-cast-from Inv-loop μ-loop
+cast-from c = search needs
+
+mul-if1 : tie.Need-mul-if1 Inv-loop μ-loop
+mul-if1 c = search needs
+
+shared-slice-read-if1 : tie.Need-shared-slice-read-if1 Inv-loop μ-loop
+shared-slice-read-if1 c =
+    let s = c .before .before .before .before in
+    omega (arith, row-leaves (s .pre .0) (s .args .i) (s .pre .2) (c .before .before .row-of .ensures))
+
+returns : tie.Need-returns Inv-loop μ-loop
+returns c =
+    let s = c .before .before .before .before .before in
+    let a = s .args in
+    let ts = rows (a .cells .now) (a .count) in
+    let n : length ts ≡ a .count = length-rows (a .cells .now) (a .count) in
+    let p = row-said (s .pre .0) (a .i) (s .pre .2) (c .before .before .before .row-of .ensures) in
+    rw n at (partner-none ts (a .dist .now) (a .i) (ap (λ (t : Transition). mark (a .dist .now) (t .from)) (sym p) ∙ c .if1 .taken))
+
+add-j : tie.Need-add-j Inv-loop μ-loop
+add-j c = search needs
+
+loop-holds : tie.Need-loop-holds Inv-loop μ-loop
+loop-holds c = (omega arith, omega arith, λ y h m. omega (arith, m .ordered))
+
+row-of-requires-2 : tie.Need-row-of-requires-2 Inv-loop μ-loop
+row-of-requires-2 c κs = search needs
+
+forks-requires : tie.Need-forks-requires Inv-loop μ-loop
+forks-requires c κs = search needs
+
+returns-2 : tie.Need-returns-2 Inv-loop μ-loop
+returns-2 c =
+    let s = c .before .before .before .before .before .before .before .before .before .before in
+    let a = s .args in
+    let l = c .before .before .before .before .loop in
+    let p = row-said (s .pre .0) (a .i) (s .pre .2) (c .before .before .before .before .before .before .before .before .row-of .ensures) in
+    let q = row-said (s .pre .0) (l .j) (c .before .before .before .loop-test .taken) (c .before .before .row-of2 .ensures) in
+    let f = decides-true (c .before .forks .result) (c .before .forks .ensures) (c .if2 .taken) in
+    let n = length-rows (a .cells .now) (a .count) in
+    record {
+      within = omega arith;
+      pair = λ h. record {
+        marked = omega (arith, ap (λ (t : Transition). mark (a .dist .now) (t .from)) p, pos-of-ne-zero (c .before .before .before .before .before .if1 .left));
+        ordered = l .inv .0;
+        inside = h;
+        forks = rw (p, q) at f;
+      };
+      least = l .inv .2;
+    }
+
+add-j-2 : tie.Need-add-j-2 Inv-loop μ-loop
+add-j-2 c = search needs
+
+loop-less : tie.Need-loop-less Inv-loop μ-loop
+loop-less c = search needs
+
+loop-again : tie.Need-loop-again Inv-loop μ-loop
+loop-again c =
+    let s = c .before .before .before .before .before .before .before .before .before .before in
+    let a = s .args in
+    let l = c .before .before .before .before .loop in
+    let p = row-said (s .pre .0) (a .i) (s .pre .2) (c .before .before .before .before .before .before .before .before .row-of .ensures) in
+    let q = row-said (s .pre .0) (l .j) (c .before .before .before .loop-test .taken) (c .before .before .row-of2 .ensures) in
+    let f = decides-false (c .before .forks .result) (c .before .forks .ensures) (c .if2 .left) in (
+      omega arith,
+      omega arith,
+      below-more (λ y. MarkedPair (rows (a .cells .now) (a .count)) (a .dist .now) (a .i) y → ⊥) (l .j) (l .inv .2) (λ m. rw (p, q) at f (m .forks)),
+    )
+
+returns-3 : tie.Need-returns-3 Inv-loop μ-loop
+returns-3 c =
+    let a = c .before .before .before .before .before .before .before .args in
+    let n = length-rows (a .cells .now) (a .count) in
+    record { within = omega arith; pair = λ h. absurd (omega arith); least = c .before .loop .inv .2 }
+
+pub partner-spec : {M : Type 1} → statement M
+partner-spec =
+    tie.close
+    (tie.spec
+    Inv-loop
+    μ-loop
+    row-of-requires
+    cast-from
+    mul-if1
+    shared-slice-read-if1
+    returns
+    add-j
+    loop-holds
+    row-of-requires-2
+    forks-requires
+    returns-2
+    add-j-2
+    loop-less
+    loop-again
+    returns-3)

@@ -1,0 +1,9 @@
+pub mod OnTable
+pub mod Sound
+pub mod Reach
+pub mod Rounds
+pub mod Split
+pub mod Walks
+pub mod Best
+pub mod Shown
+pub mod Decided
