@@ -1,12 +1,12 @@
 -- Two outcomes that replay's contract allows are equal, and how late a response can be due.
 use mathlib.Core.Path.{_≡_, refl, sym, ap, _∙_}
-use mathlib.Core.Logic.{_⊎_, inl, inr, ⊎-elim}
+use mathlib.Core.Logic.{_⊎_, inl, inr}
 use mathlib.Core.List.{List, _++_, map}
 use Prim.Native.Nat.{ℕ, _≤_, _<_}
 use native.Mathlib.Omega.{arith}
 use lib.ListN.{length, getD, drop, length-map, List·getD-append}
 use Rattle.model.specs.Table.{Transition}
-use Rattle.model.specs.Word.{Word}
+use Rattle.model.specs.Word.{Word, Activates}
 use Rattle.model.specs.Order.{Response, response}
 use Rattle.model.specs.Stamps.{gapsFrom, wordFrom}
 use Rattle.model.proofs.Lists.{in-at, getD-map}
@@ -27,27 +27,29 @@ use Rattle.replay.proofs.GapLaws.{outside-only, outside-fits}
 use Rattle.replay.proofs.LaidLaws.{conversion-length}
 use Rattle.replay.proofs.ReplayLaws.{passed-handed, passed-stamped, passed-ranged}
 
-module _ (t : Table) (trace : List ℕ) (start : ℕ) (stamps o₀ d₀ : List ℕ) where
-  abbrev tests : List Test
-  tests = replayTests t trace stamps o₀ d₀
+-- a test failed, or all passed and a gap is outside: at most one refusal has such a cause, and none where the word activates
+module _ (tests : List Test) (tr : List Transition) (start : ℕ) (stamps : List ℕ) where
+  abbrev pub Cause : Refusal → Type 0
+  Cause r = Fails tests r ⊎ (Passes tests × ((s : ℕ) × FirstOutside tr (gapsFrom start stamps) s × (r ≡ Outside s)))
 
-  -- the gap that is named first
-  abbrev Gap : Refusal → Type 0
-  Gap r = Passes tests × ((s : ℕ) × FirstOutside (stepsIn t trace) (gapsFrom start stamps) s × (r ≡ Outside s))
-
-  cause-only : (r s : Refusal) → Fails tests r ⊎ Gap r → Fails tests s ⊎ Gap s → r ≡ s
+  pub cause-only : (r s : Refusal) → Cause r → Cause s → r ≡ s
   cause-only r s (inl f) (inl g) = fails-only tests r s f g
   cause-only r s (inl f) (inr g) = absurd (passes-fails tests r (g .0) f)
   cause-only r s (inr f) (inl g) = absurd (passes-fails tests s (f .0) g)
   cause-only r s (inr f) (inr g) = f .1 .2 ∙ ap Outside (outside-only (f .1 .1) (g .1 .1)) ∙ sym (g .1 .2)
 
+  pub no-cause : (r : Refusal) → Passes tests → length stamps ≡ length tr → Activates tr (wordFrom tr start stamps) → Cause r → ⊥
+  no-cause r p e a (inl f) = passes-fails tests r p f
+  no-cause r p e a (inr g) = outside-fits (g .1 .1) (activates-fits tr start stamps e a)
+
+module _ (t : Table) (trace : List ℕ) (start : ℕ) (stamps o₀ d₀ : List ℕ) where
+  abbrev tests : List Test
+  tests = replayTests t trace stamps o₀ d₀
+
   not-both : {r : Refusal} {o d o' d' : List ℕ} → RefusesReplay t trace start stamps o₀ d₀ r o d → Plays t trace start stamps o₀ d₀ o' d' → ⊥
   not-both {r} a p =
       let e : length stamps ≡ length (stepsIn t trace) = passed-stamped t trace stamps o₀ d₀ (p .tested) ∙ sym (length-steps-in t trace) in
-      ⊎-elim
-      (λ f. passes-fails tests r (p .tested) f)
-      (λ g. outside-fits (g .1 .1) (activates-fits (stepsIn t trace) start stamps e (p .activates)))
-      (a .why)
+      no-cause tests (stepsIn t trace) start stamps r (p .tested) e (p .activates) (a .why)
 
   -- two outcomes that the contract allows for one input are equal, answer and memory
   pub outcome-only : (r s : Replayed) (o d o' d' : List ℕ) → ReplayOutcome t trace start stamps o₀ d₀ r o d
@@ -58,7 +60,7 @@ module _ (t : Table) (trace : List ℕ) (start : ℕ) (stamps o₀ d₀ : List �
   outcome-only Played (Refused s) o d o' d' a b = absurd (not-both b a)
   outcome-only (Refused r) Played o d o' d' a b = absurd (not-both a b)
   outcome-only (Refused r) (Refused s) o d o' d' a b =
-      (ap Refused (cause-only r s (a .why) (b .why)), a .order-kept ∙ sym (b .order-kept), a .due-kept ∙ sym (b .due-kept))
+      (ap Refused (cause-only tests (stepsIn t trace) start stamps r s (a .why) (b .why)), a .order-kept ∙ sym (b .order-kept), a .due-kept ∙ sym (b .due-kept))
 
 -- what a replayed word leaves in the two buffers
 module _ (t : Table) (trace : List ℕ) (start : ℕ) (stamps o₀ d₀ o d : List ℕ) (p : Plays t trace start stamps o₀ d₀ o d) where

@@ -3,15 +3,15 @@ use mathlib.Core.Path.{_≡_, refl, sym, ap, _∙_}
 use mathlib.Core.Bool.{cond}
 use mathlib.Core.Logic.{dite}
 use mathlib.Core.List.{List, [], _∷_, _++_, append-assoc, append-nil}
-use Prim.Native.Nat.{ℕ, zero, suc, _+_, _*_, _-_, _%_, _/_, _^_, _≤_, _<_}
+use Prim.Native.Nat.{ℕ, zero, suc, _+_, _*_, _-_, _%_, _/_, _^_, min, _≤_, _<_}
 use native.Mathlib.Numerals.{add-one}
 use native.Mathlib.Decide.{decLt}
 use native.Mathlib.Nat.{pow-succ'}
 use native.Mathlib.Omega.{arith}
 use borrow.Author.Tests.{le-leb, lt-leb}
 use lib.ListN.{length, take, drop, getD, set, length-append, length-take, length-drop, take-append-drop, List·getD-eq-default}
-use lib.Seq.{sets, sets-eq, take-at, take-add, drop-at, drop-append-add, drop-drop, drop-cons, take-suc, take-length, getD-append-add, getD-drop, getD-take}
-use Rattle.wire.specs.Bytes.{le, digits, bytes, placed, Bytes}
+use lib.Seq.{sets, sets-eq, set-at, take-at, take-add, drop-at, drop-append-add, drop-drop, drop-cons, take-suc, take-length, getD-append-add, getD-drop, getD-take}
+use Rattle.wire.specs.Bytes.{le, digits, bytes, placed, Bytes, les, wholes, taken}
 
 pub length-digits : (w x : ℕ) → length (digits w x) ≡ w
 length-digits zero x = refl
@@ -78,10 +78,6 @@ le-digits (suc w) x rest h =
     omega (arith, le-digits w (x / 256) rest (omega (arith, pow-succ' 256 w)))
 
 -- n numbers in a row, and back
-abbrev pub les : ℕ → ℕ → List ℕ → ℕ → List ℕ
-les w zero l k = []
-les w (suc n) l k = le w l k ∷ les w n l (k + w)
-
 pub bytes-les : (w n : ℕ) (l : List ℕ) (k : ℕ) → Bytes l → k + n * w ≤ length l → bytes w (les w n l k) ≡ take (n * w) (drop k l)
 unfolding bytes
 bytes-les w zero l k b h = let e : 0 * w ≡ 0 = omega arith in rw e
@@ -209,3 +205,40 @@ module _ (l o : List ℕ) (k : ℕ) (xs : List ℕ) (i : ℕ) (h : i < length xs
       let two : k + i * 4 + 2 ≡ suc (suc (k + i * 4)) = omega arith in
       let three : k + i * 4 + 3 ≡ suc (suc (suc (k + i * 4))) = omega arith in
       rw (e, add-one (k + i * 4), two, three) (storing-more 4 l k xs i h (omega arith))
+
+-- one number more at the end
+les-more : (w n : ℕ) (l : List ℕ) (k : ℕ) → les w (suc n) l k ≡ les w n l k ++ (le w l (k + n * w) ∷ [])
+les-more w zero l k = let e : k + 0 * w ≡ k = omega arith in rw e
+les-more w (suc n) l k =
+    let e : k + suc n * w ≡ k + w + n * w = omega arith in
+    rw (e, les-more w n l (k + w))
+
+pub length-les : (w n : ℕ) (l : List ℕ) (k : ℕ) → length (les w n l k) ≡ n
+length-les w zero l k = refl
+length-les w (suc n) l k = ap suc (length-les w n l (k + w))
+
+-- a loop that takes numbers: i of them stand in the first places
+unfoldable pub taking : ℕ → List ℕ → List ℕ → ℕ → List ℕ
+taking w b out i = les w i b 0 ++ drop i out
+
+module _ (w : ℕ) (b out : List ℕ) where
+  pub taking-none : out ≡ taking w b out 0
+  unfolding taking
+  taking-none = refl
+
+  pub taking-long : (i : ℕ) → i ≤ length out → length (taking w b out i) ≡ length out
+  unfolding taking
+  taking-long i h = simp (length-append, length-drop) (omega (arith, length-les w i b 0))
+
+  -- the next number
+  pub taking-more : (o : List ℕ) (i x : ℕ) → i < length out → o ≡ taking w b out i → x ≡ le w b (i * w) → set o i x ≡ taking w b out (i + 1)
+  unfolding taking
+  taking-more o i x h e is =
+      let z : 0 + i * w ≡ i * w = omega arith in
+      let more : les w (suc i) b 0 ≡ les w i b 0 ++ (x ∷ []) = rw (z, ← is) at (les-more w i b 0) in
+      rw (e, drop-cons out i 0 h, set-at (les w i b 0) (getD out i 0) (drop (suc i) out) x i (length-les w i b 0), add-one i)
+      (sym (append-assoc (les w i b 0) (x ∷ []) (drop (suc i) out)) ∙ ap (λ (l : List ℕ). l ++ drop (suc i) out) (sym more))
+
+  pub taking-all : (o : List ℕ) (i : ℕ) → i ≡ min (length out) (length b / w) → o ≡ taking w b out i → o ≡ taken w b out
+  unfolding taking taken
+  taking-all o i h e = rw (← h) e

@@ -2,7 +2,7 @@
 ghost use mathlib.Core.Path.{_≡_};
 ghost use Prim.Native.Nat.{_+_, _*_, _≤_, _<_};
 ghost use lib.ListN.{length, getD};
-ghost use Rattle.wire.specs.Bytes.{le, bytes, placed};
+ghost use Rattle.wire.specs.Bytes.{le, bytes, placed, taken};
 
 // The byte at i.
 pub fn byte(b: &[u8], i: usize) -> u8
@@ -87,6 +87,36 @@ pub fn put_fours(out: &mut [u8], k: usize, vals: &[u32])
         out[at + 1] = (x / 256 % 256) as u8;
         out[at + 2] = (x / 256 / 256 % 256) as u8;
         out[at + 3] = (x / 256 / 256 / 256 % 256) as u8;
+        i += 1;
+    }
+}
+
+// The numbers of two bytes each that b begins with, as many as out has places for.
+pub fn take_twos(b: &[u8], out: &mut [u16])
+    ensures { λ _. ⌜ now (out .exit) ≡ taken 2 (now (b .entry)) (now (out .entry)) ⌝ }
+{
+    let whole = b.len() / 2;
+    let mut i: usize = 0;
+    while i < whole {
+        if out.len() <= i {
+            return;
+        }
+        out[i] = two(b, i * 2);
+        i += 1;
+    }
+}
+
+// The numbers of four bytes each that b begins with, as many as out has places for.
+pub fn take_fours(b: &[u8], out: &mut [u32])
+    ensures { λ _. ⌜ now (out .exit) ≡ taken 4 (now (b .entry)) (now (out .entry)) ⌝ }
+{
+    let whole = b.len() / 4;
+    let mut i: usize = 0;
+    while i < whole {
+        if out.len() <= i {
+            return;
+        }
+        out[i] = four(b, i * 4);
         i += 1;
     }
 }

@@ -1,0 +1,79 @@
+/* The wrong versions that bench/sandgusset.c holds when it is compiled with -DSANDGUSSET_VARIANTS.
+ * VARIANT(name, what it does wrong); the first has number 1. */
+#ifndef SANDGUSSET_VARIANTS_H
+#define SANDGUSSET_VARIANTS_H
+
+#define SANDGUSSET_VARIANT_LIST(VARIANT) \
+    VARIANT(WHOLE_TICKS, "tests whole ticks only") \
+    VARIANT(NEIGHBOURS_ONLY, "tests neighbouring steps only") \
+    VARIANT(LEAST_U_ONLY, "keeps for each state only the walk with least U") \
+    VARIANT(GREATEST_V_ONLY, "keeps for each state only the walk with greatest V") \
+    VARIANT(UNREACHABLE_JUDGED, "judges states that can't be reached") \
+    VARIANT(RAW_GAPS, "compares raw stamps across the wrap: a stamp below the one before is refused") \
+    VARIANT(RAW_ORDER, "compares raw stamps across the wrap: orders by raw due times") \
+    VARIANT(RAW_DUE, "counts due times from stamp 0, not from the start") \
+    VARIANT(WRITES_ON_READ, "writes to a lent room when the file is refused") \
+    VARIANT(WRITES_ON_8, "writes to a room that is too short") \
+    VARIANT(WRITES_ON_9, "replay writes before all gaps are tested") \
+    VARIANT(READS_BEFORE, "reads the byte before a room") \
+    VARIANT(READS_AFTER, "reads the byte after a room") \
+    VARIANT(WRITES_BEFORE, "changes the byte before a room") \
+    VARIANT(STORES_IN_FILE, "stores in the file what it holds") \
+    VARIANT(D_IS_U, "takes D = U for turning") \
+    VARIANT(D_IS_V, "takes D = V for steady") \
+    VARIANT(OVERTAKING_ONLY, "takes every pair with U < D for turning, whatever V is") \
+    VARIANT(TIE_TO_LATER, "at equal due times the later step comes first") \
+    VARIANT(ODD_TRACE, "accepts a trace of odd length") \
+    VARIANT(ODD_STAMPS, "accepts stamps that are not a multiple of four bytes") \
+    VARIANT(ROOM_ROUNDED_UP, "rounds room up to whole places") \
+    VARIANT(ROOM_WHEN_NEEDED, "asks for room only if something is to be shown") \
+    VARIANT(NO_5, "doesn't test for repeated transitions") \
+    VARIANT(EQUAL_BUT_D, "takes transitions that differ only in d for equal") \
+    VARIANT(TRANSITION_257, "accepts a 257th transition") \
+    VARIANT(RANGE_BEFORE_257, "tests the range before the 257th transition") \
+    VARIANT(LENGTH_BEFORE_KIND, "tests a record's length before its kind") \
+    VARIANT(TAIL_ACCEPTED, "accepts bytes after the end record") \
+    VARIANT(V_4096, "accepts v = 4,096") \
+    VARIANT(STEPS_513, "accepts a trace of 513 steps") \
+    VARIANT(NOT_JOINED, "accepts a trace that is not joined") \
+    VARIANT(SEVEN_BEFORE_SIX, "tests 7 before 6") \
+    VARIANT(COUNTS_16, "cuts counts of places to 16 bits") \
+    VARIANT(LENGTHS_32, "cuts lengths to 32 bits") \
+    VARIANT(READS_EMPTY, "reads four bytes where fewer are left") \
+    VARIANT(GAP_U_ACCEPTED, "accepts a gap of exactly u") \
+    VARIANT(GAP_V_REFUSED, "refuses a gap of exactly v") \
+    VARIANT(STEP_FROM_0, "counts steps from 0 in replay") \
+    VARIANT(K_FROM_0, "counts K and M from 0") \
+    VARIANT(STEPS_NAMED, "names the steps in a trace verdict") \
+    VARIANT(EARLY_FROM_K, "begins the early steps of the early word at k") \
+    VARIANT(EARLY_AFTER_M, "goes on with early steps after m") \
+    VARIANT(EARLY_AT_FIXED_PLACE, "writes the early word to a fixed place") \
+    VARIANT(EARLY_FIRST, "writes the early word first") \
+    VARIANT(UNUSED_CLEARED, "clears places that the result doesn't use") \
+    VARIANT(TURNING_FIRST, "looks for turning before split") \
+    VARIANT(HIGHEST_SHOWN, "shows the highest-numbered transition that turns") \
+    VARIANT(WAY_LEFT_OUT, "shows a trace that begins with k, not in the initial state") \
+    VARIANT(K_NOT_FIRST, "names a later place of the transition as K") \
+    VARIANT(TOUCHING_SPLITS, "takes guards that only touch for overlapping") \
+    VARIANT(SPLIT_TAKES_V_OF_I, "takes v of the first transition at the end of a split") \
+    VARIANT(LIKE_ARRIVALS, "like outputs, arrivals and delays excuse a split") \
+    VARIANT(LIKE_OUTPUTS, "like outputs excuse turning") \
+    VARIANT(LENGTH_P_ONLY, "judges only tables that have a trace of length p") \
+    VARIANT(SHORTCUT_BY_V, "takes d of k at most v + d of the next, for all neighbours, for enough") \
+    VARIANT(FEW_ROWS, "looks for lower sums up to 127 only") \
+    VARIANT(DELAYS_239, "doesn't look for D = 239") \
+    VARIANT(REACH_30, "finds states within 30 steps only") \
+    VARIANT(INITIAL_0, "takes state 0 for the initial state") \
+    VARIANT(STRICT_TO_ALL, "useless: says strict or steady to all") \
+    VARIANT(REFUSES_ALL, "useless: refuses everything") \
+    VARIANT(FIXED_TRACE, "useless: says turning with a fixed trace") \
+    VARIANT(REPLAY_WRITES_NOTHING, "useless: replay writes nothing") \
+    VARIANT(FIRST_STEP_ONLY, "useless: replay orders the first step and copies the rest") \
+    VARIANT(EMPTY_TABLE_READ, "useless: the reader always returns the empty table")
+
+#define SANDGUSSET_VARIANT_NUMBER(name, what) V_##name,
+enum { V_NONE, SANDGUSSET_VARIANT_LIST(SANDGUSSET_VARIANT_NUMBER) V_COUNT };
+
+extern int sandgusset_variant;
+
+#endif

@@ -1,0 +1,5 @@
+pub mod PlaceLaws
+pub mod AgreeLaws
+pub mod ReadingLaws
+pub mod ByteLaws
+pub mod OnlyLaws

@@ -1,0 +1,86 @@
+-- Lists in bytes, once for every width w.
+use mathlib.Core.Path.{_≡_, refl, sym, ap, _∙_}
+use mathlib.Core.Logic.{dite}
+use mathlib.Core.List.{List, [], _++_}
+use Prim.Native.Nat.{ℕ, _+_, _*_, _%_, _/_, min, _≤_, _<_}
+use native.Mathlib.Decide.{decLt}
+use native.Mathlib.Omega.{arith}
+use borrow.Author.Tests.{lt-ltb, le-ltb}
+use lib.ListN.{length, take, drop, length-append, length-take, length-drop}
+use lib.Seq.{take-at}
+use Rattle.model.specs.Table.{Transition}
+use Rattle.model.specs.Trace.{Handed}
+use Rattle.wire.specs.Bytes.{bytes, placed, les, wholes, taken}
+use Rattle.wire.proofs.Bytes.{length-les, length-bytes, placed-fits}
+use Rattle.on_bytes.specs.Places.{handedOn, Decoded}
+
+pub length-wholes : (w : ℕ) (b : List ℕ) → length (wholes w b) ≡ length b / w
+length-wholes w b = length-les w (length b / w) b 0
+
+module _ (w : ℕ) (b : List ℕ) where
+  pub rest-none : 0 < length b % w → handedOn w b ≡ []
+  unfolding handedOn
+  rest-none h = rw (lt-ltb _ _ h)
+
+  module _ (even : length b % w ≤ 0) where
+    pub long-none : 512 < length b / w → handedOn w b ≡ []
+    unfolding handedOn
+    long-none h = rw (le-ltb _ _ even, lt-ltb _ _ h)
+
+    pub whole-all : length b / w ≤ 512 → handedOn w b ≡ wholes w b
+    unfolding handedOn
+    whole-all h = rw (le-ltb _ _ even, le-ltb _ _ h)
+
+  -- what is handed on and not empty is the whole list
+  pub record Whole : Type 0 where
+    pub even : length b % w ≡ 0
+    pub few : length b / w ≤ 512
+    pub is : handedOn w b ≡ wholes w b
+
+  pub handed-whole : 1 ≤ length (handedOn w b) → Whole
+  handed-whole h =
+      dite (decLt 0 (length b % w)) (λ r. absurd (omega (arith, ap length (rest-none r))))
+      (λ e. dite (decLt 512 (length b / w)) (λ l. absurd (omega (arith, ap length (long-none (omega arith) l))))
+      (λ s. record { even = omega arith; few = omega arith; is = whole-all (omega arith) (omega arith) }))
+
+  -- a list in bytes of n numbers, 1 to 512, told by what is handed on
+  pub handed-count : (n : ℕ) → 1 ≤ n → length (handedOn w b) ≡ n → (length b % w ≡ 0) × (length b / w ≡ n)
+  handed-count n h e =
+      let p = handed-whole (omega arith) in
+      (p .even, omega (arith, ap length (p .is), length-wholes w b))
+
+  pub count-handed : (n : ℕ) → n ≤ 512 → (length b % w ≡ 0) × (length b / w ≡ n) → length (handedOn w b) ≡ n
+  count-handed n h p = ap length (whole-all (omega arith) (omega arith)) ∙ length-wholes w b ∙ p .1
+
+  -- what the decoding leaves
+  pub decoded-none : (out : List ℕ) → length out ≡ 512 → handedOn w b ≡ [] → Decoded w b 0 out
+  decoded-none out l e = record { long = l; few = omega arith; is = sym e }
+
+  pub decoded-all : (out o : List ℕ) → length out ≡ 512 → length b % w ≤ 0 → length b / w ≤ 512 → o ≡ taken w b out → Decoded w b (length b / w) o
+  unfolding taken
+  decoded-all out o l e h t =
+      let n : min (length out) (length b / w) ≡ length b / w = omega arith in
+      let f : o ≡ wholes w b ++ drop (length b / w) out = rw n at t in
+      record {
+        long = rw f (simp (length-append, length-drop) (omega (arith, length-wholes w b)));
+        few = h;
+        is = rw f (take-at (wholes w b) (drop (length b / w) out) (length b / w) (length-wholes w b) ∙ sym (whole-all e h));
+      }
+
+-- a trace in bytes is one exactly if what is handed on is one
+module _ (ts : List Transition) (trace : List ℕ) where
+  pub trace-whole : Handed ts (handedOn 2 trace) → (length trace % 2 ≡ 0) × Handed ts (wholes 2 trace)
+  trace-whole h = let p = handed-whole 2 trace (h .some) in (p .even, rw (p .is) at h)
+
+  pub whole-trace : (length trace % 2 ≡ 0) × Handed ts (wholes 2 trace) → Handed ts (handedOn 2 trace)
+  whole-trace h = rw (whole-all 2 trace (omega arith) (omega (arith, h .1 .most, length-wholes 2 trace))) (h .1)
+
+  pub trace-count : Handed ts (handedOn 2 trace) → length (handedOn 2 trace) ≡ length trace / 2
+  trace-count h = ap length (handed-whole 2 trace (h .some) .is) ∙ length-wholes 2 trace
+
+-- the used places written back: xs, of which there are n, from the front of what came back
+pub back : (w n : ℕ) (xs more l : List ℕ) → length xs ≡ n → n * w ≤ length l → placed l 0 (bytes w (take n (xs ++ more))) ≡ bytes w xs ++ drop (w * n) l
+back w n xs more l e h =
+    let b : length (bytes w xs) ≡ n * w = length-bytes w xs ∙ ap (λ (k : ℕ). k * w) e in
+    let d : 0 + length (bytes w xs) ≡ w * n = omega arith in
+    rw (take-at xs more n e, placed-fits l 0 (bytes w xs) (omega arith), d)

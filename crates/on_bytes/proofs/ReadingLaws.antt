@@ -1,0 +1,55 @@
+-- What the reader's answer says of a file in bytes.
+use mathlib.Core.Path.{_≡_, refl, sym, ap, _∙_}
+use mathlib.Core.List.{List}
+use Prim.Native.Nat.{ℕ}
+use native.Mathlib.Omega.{arith}
+use Rattle.model.specs.Table.{Machine}
+use Rattle.wire.specs.Bytes.{Bytes}
+use Rattle.table.specs.declared.Reading.{Reading}
+use Rattle.table.specs.declared.Refusal.{Refusal}
+use Rattle.table.specs.declared.Checked.the-variants.{Sound, Refused}
+use Rattle.table.specs.declared.Written.{Written}
+use Rattle.table.specs.Rows.{machineOf, tableOf}
+use Rattle.table.specs.Check.{checkOf}
+use Rattle.table.specs.File.{Scan, machine, stopped, readFile, readingOf}
+use Rattle.table.proofs.CheckLaws.{check-law}
+use Rattle.table.proofs.CellLaws.{machine-table}
+use Rattle.table.specs.Write.{WriteOutcome}
+use Rattle.table.proofs.FileLaws.{sound, read-then-write, read-then-short}
+use Rattle.on_bytes.specs.Rewrites.{Rewritten}
+
+module _ (l : List ℕ) (a : Reading) (read : a ≡ readingOf (readFile l)) where
+  pub refused-stopped : (r : Refusal) → a .answer ≡ Refused r → readFile l ≡ stopped r
+  refused-stopped r e = by (readFile l) (sym (ap (λ x. x .answer) read) ∙ e)
+    where
+      by : (s : Scan) → readingOf s .answer ≡ Refused r → s ≡ stopped r
+      by (machine m) q = let z : _≡_ {A = ℕ} 0 1 = cc in absurd (omega arith)
+      by (stopped x) q = let f : x ≡ r = cc in ap stopped f
+
+  -- the machine that was read
+  module _ (e : a .answer ≡ Sound) where
+    pub sound-machine : (m : Machine) × (readFile l ≡ machine m) × (a .table ≡ tableOf m)
+    sound-machine = by (readFile l) refl
+      where
+        by : (s : Scan) → readFile l ≡ s → (m : Machine) × (readFile l ≡ machine m) × (a .table ≡ tableOf m)
+        by (machine m) q = (m, q, ap (λ x. x .table) (rw q at read))
+        by (stopped r) q = let z : _≡_ {A = ℕ} 0 1 = cc (ap (λ x. x .answer) (rw q at read)) in absurd (omega arith)
+
+    pub sound-read : readFile l ≡ machine (machineOf (a .table))
+    sound-read = let k = sound-machine in k .1 ∙ ap machine (sym (ap machineOf (k .2) ∙ machine-table (k .0)))
+
+    pub sound-checks : Bytes l → checkOf (a .table) ≡ Sound
+    sound-checks b =
+        let k = sound-machine in
+        let v = sound l (k .0) b (k .1) .0 in
+        rw (k .2) (check-law (tableOf (k .0)) .1 (v .few, rw (machine-table (k .0)) v))
+
+    -- the table that was read, written: the file, if there is room
+    pub rewritten : Bytes l → (out₀ out : List ℕ) (answer : Written) → WriteOutcome (a .table) out₀ answer out → Rewritten l out₀ answer out
+    rewritten b out₀ out answer o =
+        let k = sound-machine in
+        let w : WriteOutcome (tableOf (k .0)) out₀ answer out = rw (k .2) at o in
+        record {
+          fits = λ h. read-then-write l (k .0) b (k .1) out₀ answer out w h;
+          short = λ h. read-then-short l (k .0) b (k .1) out₀ answer out w h;
+        }

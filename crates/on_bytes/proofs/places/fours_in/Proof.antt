@@ -1,0 +1,29 @@
+use borrow.Author.Needs.{needs}
+use native.Mathlib.Omega.{arith}
+use Rattle.on_bytes.proofs.PlaceLaws.{rest-none, long-none, decoded-none, decoded-all}
+use Rattle.on_bytes.proofs.places.fours_in.Statement.{statement}
+use Rattle.on_bytes.proofs.places.fours_in.Tie as tie
+
+returns : tie.Need-returns
+returns c =
+    let s = c .before .before .before in
+    decoded-none 4 (s .args .b .now) (s .args .out .now) (s .pre) (rest-none 4 (s .args .b .now) (omega arith))
+
+returns-2 : tie.Need-returns-2
+returns-2 c =
+    let s = c .before .before .before .before in
+    decoded-none 4 (s .args .b .now) (s .args .out .now) (s .pre) (long-none 4 (s .args .b .now) (omega arith) (omega arith))
+
+take-fours-requires : tie.Need-take-fours-requires
+take-fours-requires c κs = search needs
+
+same-length : tie.Need-same-length
+same-length c = search needs
+
+returns-3 : tie.Need-returns-3
+returns-3 c =
+    let s = c .before .before .before .before .before .before .before .before in
+    decoded-all 4 (s .args .b .now) (s .args .out .now) _ (s .pre) (omega arith) (omega arith) (c .before .before .take-fours .ensures)
+
+pub fours-in-spec : {M : Type 1} → statement M
+fours-in-spec = tie.close (tie.spec returns returns-2 take-fours-requires same-length returns-3)

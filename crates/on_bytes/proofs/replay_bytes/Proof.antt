@@ -1,0 +1,48 @@
+use borrow.Author.Needs.{needs}
+use mathlib.Core.Path.{refl}
+use Rattle.on_bytes.proofs.ReadingLaws.{refused-stopped, sound-read, sound-checks}
+use Rattle.on_bytes.proofs.replay_bytes.Statement.{statement}
+use Rattle.on_bytes.proofs.replay_bytes.Tie as tie
+
+read-table-requires : tie.Need-read-table-requires
+read-table-requires c κs = search needs
+
+enum-known-read : tie.Need-enum-known-read
+enum-known-read c = search needs
+
+returns : tie.Need-returns
+returns c =
+    let p = c .before .before .before in
+    rw (refused-stopped (p .before .before .before .before .before .before .args .file .now) (p .read-table .result) (p .read-table .ensures) _ (c .before .read .given .1)) (refl, refl, refl)
+
+enum-told : tie.Need-enum-told
+enum-told c = search needs
+
+replay-on-requires : tie.Need-replay-on-requires
+replay-on-requires c κs =
+    let p = c .before .before .before .before in
+    sound-checks (p .before .before .before .before .before .before .args .file .now) (p .read-table .result) (p .read-table .ensures) (c .before .before .enum-told .given .1) (λ i. p .before .before .before .before .before .shared-slice-known .given i .fits)
+
+same-length : tie.Need-same-length
+same-length c = search needs
+
+same-length-2 : tie.Need-same-length-2
+same-length-2 c = search needs
+
+returns-2 : tie.Need-returns-2
+returns-2 c =
+    let p = c .before .before .before .before .before .before .before .before .before in
+    rw (sound-read (p .before .before .before .before .before .before .args .file .now) (p .read-table .result) (p .read-table .ensures) (c .before .before .before .before .before .before .before .enum-told .given .1)) (c .before .before .before .before .replay-on .ensures)
+
+pub replay-bytes-spec : {M : Type 1} → statement M
+replay-bytes-spec =
+    tie.close
+    (tie.spec
+    read-table-requires
+    enum-known-read
+    returns
+    enum-told
+    replay-on-requires
+    same-length
+    same-length-2
+    returns-2)

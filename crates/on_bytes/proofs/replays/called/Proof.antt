@@ -1,0 +1,110 @@
+use borrow.Author.Needs.{needs}
+use native.Mathlib.Omega.{arith}
+use lib.ListN.{length-append, length-take}
+use Rattle.on_bytes.proofs.ByteLaws.{plays-long, called-refused, called-played}
+use Rattle.on_bytes.proofs.replays.called.Statement.{statement}
+use Rattle.on_bytes.proofs.replays.called.Tie as tie
+
+room-of-twos-requires : tie.Need-room-of-twos-requires
+room-of-twos-requires c κs = search needs
+
+room-of-fours-requires : tie.Need-room-of-fours-requires
+room-of-fours-requires c κs = search needs
+
+slice-relend-prefix-replay : tie.Need-slice-relend-prefix-replay
+slice-relend-prefix-replay c = search needs
+
+slice-aggregate-replay : tie.Need-slice-aggregate-replay
+slice-aggregate-replay c = simp length-take (omega arith)
+
+slice-relend-prefix-replay-2 : tie.Need-slice-relend-prefix-replay-2
+slice-relend-prefix-replay-2 c = search needs
+
+slice-aggregate-replay-2 : tie.Need-slice-aggregate-replay-2
+slice-aggregate-replay-2 c = simp length-take (omega arith)
+
+replay-requires : tie.Need-replay-requires
+replay-requires c κs = search needs
+
+enum-known-r : tie.Need-enum-known-r
+enum-known-r c = search needs
+
+same-length : tie.Need-same-length
+same-length c = search needs
+
+same-length-2 : tie.Need-same-length-2
+same-length-2 c = search needs
+
+returns : tie.Need-returns
+returns c =
+    let p = c .before .before .before .before .before .before .before in
+    let s = p .before .before .before .before .before .before .before .before .before .before .before in
+    let a = s .args in
+    called-refused (a .t) (a .trace .now) (a .start) (a .stamps .now) (a .order .now) (a .due .now) (a .firsts .now) (a .times .now)
+    _ _ (p .before .before .before .before .room-of-twos .ensures) (p .before .before .before .room-of-fours .ensures) (s .pre .0) (s .pre .1)
+    _ (rw (c .before .r .given .1) at (p .replay .ensures))
+
+enum-told : tie.Need-enum-told
+enum-told c = search needs
+
+put-back-twos-requires : tie.Need-put-back-twos-requires
+put-back-twos-requires c κs =
+    let e = c .before .before in
+    let p = e .before .before .before .before .before .before in
+    let a = p .before .before .before .before .before .before .before .before .before .before .before .args in
+    let long = plays-long (a .t) (a .trace .now) (a .start) (a .stamps .now) _ _ _ _ (rw (e .enum-told .given .1) at (p .replay .ensures)) in
+    simp length-append (omega (arith, long .0))
+
+put-back-fours-requires : tie.Need-put-back-fours-requires
+put-back-fours-requires c κs =
+    let e = c .before .before .before .before .before .before .before in
+    let p = e .before .before .before .before .before .before in
+    let a = p .before .before .before .before .before .before .before .before .before .before .before .args in
+    let long = plays-long (a .t) (a .trace .now) (a .start) (a .stamps .now) _ _ _ _ (rw (e .enum-told .given .1) at (p .replay .ensures)) in
+    simp length-append (omega (arith, long .1))
+
+same-length-3 : tie.Need-same-length-3
+same-length-3 c = search needs
+
+same-length-4 : tie.Need-same-length-4
+same-length-4 c = search needs
+
+same-length-5 : tie.Need-same-length-5
+same-length-5 c = search needs
+
+same-length-6 : tie.Need-same-length-6
+same-length-6 c = search needs
+
+returns-2 : tie.Need-returns-2
+returns-2 c =
+    let e = c .before .before .before .before .before .before .before .before .before .before in
+    let p = e .before .before .before .before .before .before in
+    let s = p .before .before .before .before .before .before .before .before .before .before .before in
+    let a = s .args in
+    called-played (a .t) (a .trace .now) (a .start) (a .stamps .now) (a .order .now) (a .due .now) (a .firsts .now) (a .times .now)
+    _ _ (p .before .before .before .before .room-of-twos .ensures) (p .before .before .before .room-of-fours .ensures) (s .pre .0) (s .pre .1)
+    _ _ _ _ _ _ (rw (e .enum-told .given .1) at (p .replay .ensures)) (c .before .before .before .before .before .before .before .put-back-twos .ensures) (c .before .before .put-back-fours .ensures)
+
+pub called-spec : {M : Type 1} → statement M
+called-spec =
+    tie.close
+    (tie.spec
+    room-of-twos-requires
+    room-of-fours-requires
+    slice-relend-prefix-replay
+    slice-aggregate-replay
+    slice-relend-prefix-replay-2
+    slice-aggregate-replay-2
+    replay-requires
+    enum-known-r
+    same-length
+    same-length-2
+    returns
+    enum-told
+    put-back-twos-requires
+    put-back-fours-requires
+    same-length-3
+    same-length-4
+    same-length-5
+    same-length-6
+    returns-2)

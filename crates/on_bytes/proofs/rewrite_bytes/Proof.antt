@@ -1,0 +1,44 @@
+use borrow.Author.Needs.{needs}
+use mathlib.Core.Path.{refl}
+use Rattle.on_bytes.proofs.ReadingLaws.{refused-stopped, sound-read, rewritten}
+use Rattle.on_bytes.proofs.rewrite_bytes.Statement.{statement}
+use Rattle.on_bytes.proofs.rewrite_bytes.Tie as tie
+
+read-table-requires : tie.Need-read-table-requires
+read-table-requires c κs = search needs
+
+enum-known-read : tie.Need-enum-known-read
+enum-known-read c = search needs
+
+returns : tie.Need-returns
+returns c =
+    let p = c .before .before .before in
+    rw (refused-stopped (p .before .before .before .args .file .now) (p .read-table .result) (p .read-table .ensures) _ (c .before .read .given .1)) (refl, refl)
+
+enum-told : tie.Need-enum-told
+enum-told c = search needs
+
+write-table-requires : tie.Need-write-table-requires
+write-table-requires c κs = search needs
+
+same-length : tie.Need-same-length
+same-length c = search needs
+
+returns-2 : tie.Need-returns-2
+returns-2 c =
+    let p = c .before .before .before .before .before .before in
+    let l = p .before .before .before .args .file .now in
+    let w = rewritten l (p .read-table .result) (p .read-table .ensures) (c .before .before .before .before .enum-told .given .1) (λ i. p .before .before .shared-slice-known .given i .fits) _ _ _ (c .before .before .write-table .ensures) in
+    rw (sound-read l (p .read-table .result) (p .read-table .ensures) (c .before .before .before .before .enum-told .given .1)) w
+
+pub rewrite-bytes-spec : {M : Type 1} → statement M
+rewrite-bytes-spec =
+    tie.close
+    (tie.spec
+    read-table-requires
+    enum-known-read
+    returns
+    enum-told
+    write-table-requires
+    same-length
+    returns-2)

@@ -1,0 +1,4 @@
+pub mod OnFile
+pub mod Places
+pub mod Replays
+pub mod Rewrites

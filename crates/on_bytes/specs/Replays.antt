@@ -1,0 +1,84 @@
+-- What replay on bytes answers, and what it leaves in the lent memory.
+use mathlib.Core.Path.{_≡_}
+use mathlib.Core.Logic.{_⊎_}
+use mathlib.Core.List.{List, [], _∷_, _++_, map}
+use Prim.Native.Nat.{ℕ, _*_, _%_, _/_, min, _≤_}
+use lib.ListN.{length, take, drop}
+use Rattle.model.specs.Table.{Transition, Machine}
+use Rattle.model.specs.Trace.{steps}
+use Rattle.model.specs.Word.{Word, Activates}
+use Rattle.model.specs.Order.{Response, Conversion}
+use Rattle.model.specs.Stamps.{gapsFrom, wordFrom}
+use Rattle.wire.specs.Bytes.{bytes, placed, wholes}
+use Rattle.table.specs.declared.Refusal.{Refusal}
+use Rattle.table.specs.declared.Refusal.the-variants.{Uneven, NoRoom, Outside}
+use Rattle.table.specs.declared.Table.{Table}
+use Rattle.table.specs.Tests.{Test, unless, Passes, Fails}
+use Rattle.table.specs.File.{readFile}
+use Rattle.replay.specs.declared.Replayed.{Replayed}
+use Rattle.replay.specs.declared.Replayed.the-variants.{Played, Refused}
+use Rattle.replay.specs.Play.{FirstOutside, ReplayOutcome}
+use Rattle.on_bytes.specs.OnFile.{onFile}
+use Rattle.on_bytes.specs.Places.{traceTest}
+
+-- the tests after the file's
+abbrev pub bytesTests : Machine → List ℕ → List ℕ → List ℕ → List ℕ → List Test
+bytesTests m trace stamps order₀ due₀ =
+    traceTest m trace ∷
+    unless Uneven ((length stamps % 4 ≡ 0) × (length stamps / 4 ≡ length trace / 2)) ∷
+    unless NoRoom ((length trace / 2 ≤ length order₀ / 2) × (length trace / 2 ≤ length due₀ / 4)) ∷ []
+
+-- the transitions that a trace in bytes names, and the word that stamps in bytes make on them
+abbrev pub pathIn : Machine → List ℕ → List Transition
+pathIn m trace = steps (m .transitions) (wholes 2 trace)
+
+abbrev pub wordIn : Machine → List ℕ → ℕ → List ℕ → Word
+wordIn m trace start stamps = wordFrom (pathIn m trace) start (wholes 4 stamps)
+
+-- a test failed, or all passed and a gap is outside
+abbrev pub Cause : Machine → List ℕ → ℕ → List ℕ → List ℕ → List ℕ → Refusal → Type 0
+Cause m trace start stamps order₀ due₀ r =
+    Fails (bytesTests m trace stamps order₀ due₀) r
+    ⊎ (Passes (bytesTests m trace stamps order₀ due₀) × ((s : ℕ) × FirstOutside (pathIn m trace) (gapsFrom start (wholes 4 stamps)) s × (r ≡ Outside s)))
+
+pub record RefusesBytes (m : Machine) (trace : List ℕ) (start : ℕ) (stamps order₀ due₀ : List ℕ) (r : Refusal) (order due : List ℕ) : Type 0 where
+  pub why : Cause m trace start stamps order₀ due₀ r
+  pub order-kept : order ≡ order₀
+  pub due-kept : due ≡ due₀
+
+-- the conversion in bytes, then what stood there
+pub record PlaysBytes (m : Machine) (trace : List ℕ) (start : ℕ) (stamps order₀ due₀ order due : List ℕ) : Type 0 where
+  pub tested : Passes (bytesTests m trace stamps order₀ due₀)
+  pub activates : Activates (pathIn m trace) (wordIn m trace start stamps)
+  pub responses : List Response
+  pub converts : Conversion (pathIn m trace) (wordIn m trace start stamps) responses
+  pub orders : order ≡ bytes 2 (map (λ x. x .step) responses) ++ drop (2 * (length trace / 2)) order₀
+  pub dues : due ≡ bytes 4 (map (λ x. x .time) responses) ++ drop (4 * (length trace / 2)) due₀
+
+-- with a machine that was read
+abbrev pub MachineOutcome : Machine → List ℕ → ℕ → List ℕ → List ℕ → List ℕ → Replayed → List ℕ → List ℕ → Type 0
+MachineOutcome m trace start stamps order₀ due₀ Played order due = PlaysBytes m trace start stamps order₀ due₀ order due
+MachineOutcome m trace start stamps order₀ due₀ (Refused r) order due = RefusesBytes m trace start stamps order₀ due₀ r order due
+
+abbrev pub BytesOutcome : List ℕ → List ℕ → ℕ → List ℕ → List ℕ → List ℕ → Replayed → List ℕ → List ℕ → Type 0
+BytesOutcome file trace start stamps order₀ due₀ answer order due =
+    onFile (readFile file)
+    (λ r. (answer ≡ Refused r) × (order ≡ order₀) × (due ≡ due₀))
+    (λ m. MachineOutcome m trace start stamps order₀ due₀ answer order due)
+
+-- the used places written back: n numbers of o, at the front of the bytes l
+abbrev pub wroteBack : ℕ → Replayed → ℕ → List ℕ → List ℕ → List ℕ
+wroteBack w Played n o l = placed l 0 (bytes w (take n o))
+wroteBack w (Refused r) n o l = l
+
+-- the call on values, with room for the whole places of two byte buffers, its used places written back
+pub record Called (t : Table) (trace : List ℕ) (start : ℕ) (stamps order₀ due₀ : List ℕ) (answer : Replayed) (order due : List ℕ) : Type 0 where
+  pub o₀ : List ℕ
+  pub d₀ : List ℕ
+  pub o : List ℕ
+  pub d : List ℕ
+  pub order-room : length o₀ ≡ min (length order₀ / 2) 512
+  pub due-room : length d₀ ≡ min (length due₀ / 4) 512
+  pub outcome : ReplayOutcome t trace start stamps o₀ d₀ answer o d
+  pub orders : order ≡ wroteBack 2 answer (length trace) o order₀
+  pub dues : due ≡ wroteBack 4 answer (length trace) d due₀

@@ -1,0 +1,40 @@
+// The calls on byte buffers: the table as a file, transition and step numbers of two bytes, stamps and due times of four.
+use replay::Replayed;
+use table::Checked;
+use table::Written;
+ghost use Rattle.on_bytes.specs.Replays.{BytesOutcome};
+ghost use Rattle.on_bytes.specs.Rewrites.{RewriteOutcome};
+
+mod places;
+mod replays;
+
+// Reads a table file and writes it.
+pub fn rewrite_bytes(file: &[u8], out: &mut [u8]) -> Written
+    ensures { λ r. ⌜ RewriteOutcome (now (file .entry)) (now (out .entry)) r (now (out .exit)) ⌝ }
+{
+    let a = table::read_table(file);
+    let read = a.answer;
+    if let Checked::Refused(r) = read {
+        return Written::Refused(r);
+    }
+    table::write_table(a.table, out)
+}
+
+// Replay with the table as a file and every list in bytes.
+pub fn replay_bytes(
+    file: &[u8],
+    trace: &[u8],
+    start: u32,
+    stamps: &[u8],
+    order: &mut [u8],
+    due: &mut [u8],
+) -> Replayed
+    ensures { λ r. ⌜ BytesOutcome (now (file .entry)) (now (trace .entry)) start (now (stamps .entry)) (now (order .entry)) (now (due .entry)) r (now (order .exit)) (now (due .exit)) ⌝ }
+{
+    let a = table::read_table(file);
+    let read = a.answer;
+    if let Checked::Refused(r) = read {
+        return Replayed::Refused(r);
+    }
+    replays::replay_on(a.table, trace, start, stamps, order, due)
+}

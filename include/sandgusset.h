@@ -1,0 +1,189 @@
+/* sandgusset.h - judges controller tables from C.
+ *
+ * Four calls on plain numbers and byte buffers. Every call answers for every input, and its answer depends on what it
+ * is handed alone.
+ *
+ * WHAT IS LENT
+ *   Every buffer is a pointer to its first byte and a length in bytes.
+ *   - A buffer of length 0 may be NULL. Any other pointer must be good for its whole length.
+ *   - A const buffer is only read. It may lie in read-only memory.
+ *   - No buffer needs any alignment.
+ *   - The buffers of one call must not overlap.
+ *   - All numbers in buffers are little-endian: transition numbers and step numbers take places of two bytes, stamps
+ *     and due times places of four. sandgusset_get16 and its sisters below read and write such places.
+ *   - Room counts whole places: 5 bytes are two places of two, and the fifth byte is never touched.
+ *   - A refused call writes nothing. Places that a result does not use, and bytes after the last whole place, keep
+ *     what they held.
+ *
+ * WHAT IS ANSWERED
+ *   One 64-bit number that holds four fields of 16 bits, lowest first: status, first, second, steps. Fields that are
+ *   not named for an answer are 0. Take it apart with sandgusset_status, _first, _second and _steps.
+ *
+ *   status 0           done: strict, steady, replayed or written (see each call)
+ *   status 1 to 9      refused with this number; first is the place
+ *   status 256         split (only sandgusset_judge)
+ *   status 257         turning (sandgusset_judge and sandgusset_judge_trace)
+ *
+ * REFUSALS
+ *   1  the table file: fewer than 4 bytes left where a record must begin, a length that is not that of the kind, or
+ *      a body that is cut off
+ *   2  the table file: a kind that is unknown or out of place, or any byte after the end record
+ *   3  the table file: a 257th transition
+ *   4  the table file: a number outside its range
+ *   5  the table file: a transition equal to an earlier one
+ *   6  the trace: empty, longer than 512 steps, of odd length in bytes, naming no transition, or not joined
+ *   7  the stamps: not as many as steps, or not a multiple of four bytes
+ *   8  a lent room is too short
+ *   9  a gap outside its guard
+ *   For 1 to 5 the place (first) is the offset in the file of the refused record, or of the first byte after the end
+ *   record. For 9 it is the first such step, counted from 1. For 6, 7 and 8 it is 0. The file is tested first, then
+ *   6, 7, 8 and 9 in this order, as far as they apply to the call.
+ *
+ * THE TABLE FILE
+ *   Records: two bytes of length (counting all that follow them), two bytes of kind, the body, all in numbers of two
+ *   bytes. One head, 0 to 256 transitions, one end, then nothing; 4,620 bytes at the most.
+ *     kind 1, length  6  head: number of states (1 to 32), initial state
+ *     kind 2, length 16  transition: departure, input, output, arrival, u, v, d
+ *                        (states from 0; letters 0 to 255; 1 <= u < v <= 4,095 and 1 <= d <= 240, in ticks)
+ *     kind 3, length  2  end
+ *   Transitions are numbered from 0 in file order.
+ *
+ * TIME
+ *   Stamps are 32-bit counts of 1/256 tick on a counter that wraps. A gap is the difference of successive stamps
+ *   modulo 2^32; it fits a step if it is greater than u and at most v ticks of its transition. A response is due d
+ *   ticks after its step. At equal due times the earlier step responds first.
+ */
+#ifndef SANDGUSSET_H
+#define SANDGUSSET_H
+
+#include <stddef.h>
+#include <stdint.h>
+
+#ifdef __cplusplus
+extern "C" {
+#endif
+
+/* Values of the status field. */
+#define SANDGUSSET_DONE 0           /* strict, steady, replayed or written */
+#define SANDGUSSET_STRICT 0         /* sandgusset_judge: neither split nor turning */
+#define SANDGUSSET_STEADY 0         /* sandgusset_judge_trace: no pair of steps turns */
+#define SANDGUSSET_REPLAYED 0       /* sandgusset_replay */
+#define SANDGUSSET_WRITTEN 0        /* sandgusset_rewrite: first is the number of bytes */
+#define SANDGUSSET_BAD_RECORD 1     /* first: offset of the record */
+#define SANDGUSSET_BAD_KIND 2       /* first: offset of the record, or of the first byte after the end */
+#define SANDGUSSET_TOO_MANY 3       /* first: offset of the record */
+#define SANDGUSSET_BAD_NUMBER 4     /* first: offset of the record */
+#define SANDGUSSET_REPEATED 5       /* first: offset of the record */
+#define SANDGUSSET_BAD_TRACE 6      /* first: 0 */
+#define SANDGUSSET_BAD_STAMPS 7     /* first: 0 */
+#define SANDGUSSET_NO_ROOM 8        /* first: 0 */
+#define SANDGUSSET_BAD_GAP 9        /* first: the step, counted from 1 */
+#define SANDGUSSET_SPLIT 256        /* first, second: transition numbers I and J; steps: length of the traces */
+#define SANDGUSSET_TURNING 257      /* first, second: step numbers K and M; steps: see each call */
+
+/* Limits. */
+#define SANDGUSSET_MAX_FILE 4620        /* bytes of the longest table file */
+#define SANDGUSSET_MAX_STEPS 512        /* steps of the longest trace that is handed in */
+#define SANDGUSSET_TRACE_PLACES 270     /* trace places that sandgusset_judge needs: 540 bytes */
+#define SANDGUSSET_STAMP_PLACES 540     /* stamp places that sandgusset_judge needs: 2,160 bytes */
+#define SANDGUSSET_TRACE_BYTES 540
+#define SANDGUSSET_STAMP_BYTES 2160
+
+/* Judges a whole table. Refusals: 1 to 5, 8.
+ *
+ * Lend at least 270 trace places (540 bytes) and 540 stamp places (2,160 bytes), whatever the table is.
+ *
+ * strict   status 0. Nothing is written.
+ * split    status 256; first I, second J (transition numbers, I < J), steps n. Some word activates two traces from the
+ *          initial state. The first trace stands in trace places 0 to n-1 and ends in I; the second differs from it
+ *          only in its last number, which is J. Stamp places 0 to n-1 hold the word, from stamp 0: the gap v at every
+ *          step but the last, and there the lesser v of I and J.
+ * turning  status 257; first K, second M (steps of the shown trace, counted from 1), steps n = M. Trace places 0 to n-1
+ *          hold a trace from the initial state. Stamp places 0 to n-1 hold the late word, under which K responds before
+ *          M; places n to 2n-1 hold the early word, under which M responds before K. Both count from stamp 0. The late
+ *          word takes the gap v at every step; the early word takes u and 1/256 tick at steps K+1 to M, v elsewhere.
+ *          Step K is the lowest-numbered transition that can be the first of such a pair, at its first place in the
+ *          shown trace.
+ * A table that is both is answered as split. */
+uint64_t sandgusset_judge(const uint8_t *file, size_t file_len,
+                          uint8_t *trace, size_t trace_len,
+                          uint8_t *stamps, size_t stamps_len);
+
+/* Judges one trace, which may start in any state. Refusals: 1 to 5, 6, 8.
+ *
+ * Lend two stamp places per step (8 bytes per step), whatever the trace is.
+ *
+ * steady   status 0. Nothing is written.
+ * turning  status 257; first K, second M (least K, then least M, counted from 1), steps 0. With n steps in the trace,
+ *          stamp places 0 to n-1 hold the late word and places n to 2n-1 the early word, both from stamp 0 and made as
+ *          above. */
+uint64_t sandgusset_judge_trace(const uint8_t *file, size_t file_len,
+                                const uint8_t *trace, size_t trace_len,
+                                uint8_t *stamps, size_t stamps_len);
+
+/* Replays stamps on a trace: in which order do the responses come? Refusals: 1 to 5, 6, 7, 8, 9.
+ *
+ * start is the stamp from which the first gap counts. Lend one place of two bytes per step in order and one place of
+ * four bytes per step in due.
+ *
+ * replayed  status 0. order holds the steps, counted from 1, in the order of their responses; due holds beside each
+ *           its due time in 1/256 tick since the start (at most 536,801,280). */
+uint64_t sandgusset_replay(const uint8_t *file, size_t file_len,
+                           const uint8_t *trace, size_t trace_len,
+                           uint32_t start,
+                           const uint8_t *stamps, size_t stamps_len,
+                           uint8_t *order, size_t order_len,
+                           uint8_t *due, size_t due_len);
+
+/* Reads a table file and writes the table that was read. Refusals: 1 to 5, 8.
+ *
+ * Lend at least as many bytes as the file has (4,620 are always enough).
+ *
+ * written  status 0, first the number of bytes written. */
+uint64_t sandgusset_rewrite(const uint8_t *file, size_t file_len,
+                            uint8_t *out, size_t out_len);
+
+#ifdef __cplusplus
+}
+#endif
+
+/* The four fields of an answer. */
+static inline uint16_t sandgusset_status(uint64_t answer) { return (uint16_t)(answer & 0xFFFFu); }
+static inline uint16_t sandgusset_first(uint64_t answer) { return (uint16_t)((answer >> 16) & 0xFFFFu); }
+static inline uint16_t sandgusset_second(uint64_t answer) { return (uint16_t)((answer >> 32) & 0xFFFFu); }
+static inline uint16_t sandgusset_steps(uint64_t answer) { return (uint16_t)((answer >> 48) & 0xFFFFu); }
+
+/* 1 if the answer is a refusal, otherwise 0. */
+static inline int sandgusset_refused(uint64_t answer)
+{
+    return sandgusset_status(answer) >= 1 && sandgusset_status(answer) <= 255;
+}
+
+/* Place number i (from 0) of a buffer with places of two bytes. */
+static inline uint16_t sandgusset_get16(const uint8_t *places, size_t i)
+{
+    return (uint16_t)(places[2 * i] | ((unsigned)places[2 * i + 1] << 8));
+}
+
+static inline void sandgusset_put16(uint8_t *places, size_t i, uint16_t number)
+{
+    places[2 * i] = (uint8_t)(number & 0xFFu);
+    places[2 * i + 1] = (uint8_t)(number >> 8);
+}
+
+/* Place number i (from 0) of a buffer with places of four bytes. */
+static inline uint32_t sandgusset_get32(const uint8_t *places, size_t i)
+{
+    return (uint32_t)places[4 * i] | ((uint32_t)places[4 * i + 1] << 8) |
+           ((uint32_t)places[4 * i + 2] << 16) | ((uint32_t)places[4 * i + 3] << 24);
+}
+
+static inline void sandgusset_put32(uint8_t *places, size_t i, uint32_t number)
+{
+    places[4 * i] = (uint8_t)(number & 0xFFu);
+    places[4 * i + 1] = (uint8_t)((number >> 8) & 0xFFu);
+    places[4 * i + 2] = (uint8_t)((number >> 16) & 0xFFu);
+    places[4 * i + 3] = (uint8_t)((number >> 24) & 0xFFu);
+}
+
+#endif

@@ -1,0 +1,1625 @@
+#!/usr/bin/env python3
+"""The independent program: tries the four calls against what document 01 says.
+
+    independent.py DRIVER [--cases N] [--seed S] [--only CASE] [--first] [--no-fixed] [--no-random] [--run PREFIX]
+
+It makes table files, traces, stamps and rooms, hands them to the calls through the C driver, and compares the answer
+and the final content of every lent buffer with what document 01 asks for. It is written from document 01 and keeps
+whole sets of sums where a quick judge would keep one number. Of a witness that document 01 leaves free it checks
+everything that is not free. The last line is 'N passed, 0 failed'; the status is 0 exactly if nothing failed.
+"""
+import argparse
+import itertools
+import os
+import random
+import select
+import shlex
+import signal
+import struct
+import subprocess
+import sys
+import time
+
+# ---------------------------------------------------------------------------------------------------------------------
+# Document 01: numbers, table file
+
+MAX_STATES, MAX_TRANSITIONS, MAX_STEPS = 32, 256, 512
+MAX_LETTER, MAX_V, MAX_D = 255, 4095, 240
+TABLE_TRACE, TABLE_STAMPS = 270, 540
+TURN = 1 << 32                                  # one turn of the counter
+SPLIT, TURNING = 256, 257
+JUDGE, JUDGE_TRACE, REPLAY, REWRITE = 1, 2, 3, 4
+CALLS = {JUDGE: "judge", JUDGE_TRACE: "judge_trace", REPLAY: "replay", REWRITE: "rewrite"}
+BUFFERS = {JUDGE: ("file", "trace", "stamps"), JUDGE_TRACE: ("file", "trace", "stamps"),
+           REPLAY: ("file", "trace", "stamps", "order", "due"), REWRITE: ("file", "out")}
+LENGTH_OF_KIND = {1: 6, 2: 16, 3: 2}
+
+FROM, INPUT, OUTPUT, TO, U, V, D = range(7)     # the seven numbers of a transition
+
+
+class Table:
+    def __init__(self, states, initial, rows):
+        self.states, self.initial, self.rows = states, initial, [tuple(row) for row in rows]
+
+
+def pack(status, first=0, second=0, steps=0):
+    return status | first << 16 | second << 32 | steps << 48
+
+
+def unpack(answer):
+    return answer & 0xFFFF, answer >> 16 & 0xFFFF, answer >> 32 & 0xFFFF, answer >> 48
+
+
+def show(answer):
+    status, first, second, steps = unpack(answer)
+    names = {0: "done", SPLIT: "split", TURNING: "turning"}
+    return "%s (status %d, first %d, second %d, steps %d)" % (
+        names.get(status, "refused %d" % status), status, first, second, steps)
+
+
+def record(kind, numbers, length=None):
+    return struct.pack("<HH", 2 + 2 * len(numbers) if length is None else length, kind) + \
+        struct.pack("<%dH" % len(numbers), *numbers)
+
+
+def write_file(table):
+    """The table file of a table."""
+    return record(1, (table.states, table.initial)) + b"".join(record(2, row) for row in table.rows) + record(3, ())
+
+
+def read_file(data, length):
+    """(0, table), or (number, offset). Bytes from len(data) to length are 0."""
+    at, states, initial, rows = 0, None, None, []
+    data = data[:5000] + bytes(64)
+    while True:
+        left = length - at
+        if left < 4:
+            return 1, at
+        size, kind = struct.unpack_from("<HH", data, at)
+        if kind not in ((1,) if states is None else (2, 3)):
+            return 2, at
+        if size != LENGTH_OF_KIND[kind] or left < 2 + size:
+            return 1, at
+        numbers = struct.unpack_from("<%dH" % ((size - 2) // 2), data, at + 4)
+        if kind == 1:
+            if not (1 <= numbers[0] <= MAX_STATES and numbers[1] < numbers[0]):
+                return 4, at
+            states, initial = numbers
+        elif kind == 2:
+            if len(rows) == MAX_TRANSITIONS:
+                return 3, at
+            a, i, o, b, u, v, d = numbers
+            if not (a < states and b < states and i <= MAX_LETTER and o <= MAX_LETTER and
+                    1 <= u < v <= MAX_V and 1 <= d <= MAX_D):
+                return 4, at
+            if numbers in rows:
+                return 5, at
+            rows.append(numbers)
+        at += 2 + size
+        if kind == 3:
+            return (2, at) if length > at else (0, Table(states, initial, rows))
+
+
+# ---------------------------------------------------------------------------------------------------------------------
+# Document 01: traces, words, responses
+
+def joined(rows):
+    return all(a[TO] == b[FROM] for a, b in zip(rows, rows[1:]))
+
+
+def activates(gaps, rows, q):
+    """Gaps in 1/q tick; the letters are those of the trace."""
+    return len(gaps) == len(rows) and all(r[U] * q < g <= r[V] * q for g, r in zip(gaps, rows))
+
+
+def responses(gaps, rows, q):
+    """(due, step) of every step in the order of responses, steps from 1."""
+    arrival = itertools.accumulate(gaps)
+    return sorted((at + r[D] * q, j) for j, (at, r) in enumerate(zip(arrival, rows), 1))
+
+
+def turning_pair(rows):
+    """Least k, then least m, with U < D <= V; or None."""
+    us = [0] + list(itertools.accumulate(r[U] for r in rows))
+    vs = [0] + list(itertools.accumulate(r[V] for r in rows))
+    ds = [0] + [r[D] for r in rows]
+    for k in range(1, len(rows)):
+        for m in range(k + 1, len(rows) + 1):
+            if us[m] - us[k] < ds[k] - ds[m] <= vs[m] - vs[k]:
+                return k, m
+    return None
+
+
+def turning_pair_by_words(rows):
+    """The same by trying words: every gap of n parts of a tick, n being the number of steps. None if there are too
+    many words, else (pair or None,). A finer cut than n can't show more: the sum of at most n - 1 added parts stays
+    below a tick."""
+    n = len(rows)
+    count = 1
+    for r in rows:
+        count *= (r[V] - r[U]) * n
+        if count > 4000:
+            return None
+    after, before = set(), set()
+    for gaps in itertools.product(*(range(r[U] * n + 1, r[V] * n + 1) for r in rows)):
+        order = [step for _, step in responses(gaps, rows, n)]
+        place = {step: i for i, step in enumerate(order)}
+        for k, m in itertools.combinations(range(1, n + 1), 2):
+            (before if place[k] < place[m] else after).add((k, m))
+    both = sorted(before & after)
+    return (both[0] if both else None,)
+
+
+def late_word(rows):
+    return [256 * r[V] for r in rows]
+
+
+def early_word(rows, k, m):
+    return [256 * r[U] + 1 if k < j <= m else 256 * r[V] for j, r in enumerate(rows, 1)]
+
+
+def stamps_of(gaps, start=0):
+    return [at % TURN for at in itertools.accumulate(gaps, initial=start)][1:]
+
+
+# ---------------------------------------------------------------------------------------------------------------------
+# Document 01: verdict on a table
+
+class Disagreement(Exception):
+    """Two readings of document 01 in this program differ: a fault of this program."""
+
+
+def reachable(table):
+    found, wave = {table.initial}, [table.initial]
+    while wave:
+        wave = list({r[TO] for r in table.rows if r[FROM] in wave and r[TO] not in found})
+        found.update(wave)
+    return found
+
+
+def word_for_two_traces(table):
+    """Does some word activate two different traces from the initial state? Walks two traces side by side."""
+    seen, todo = {(table.initial, table.initial, False)}, [(table.initial, table.initial, False)]
+    leaving = [[(i, r) for i, r in enumerate(table.rows) if r[FROM] == s] for s in range(table.states)]
+    while todo:
+        a, b, differ = todo.pop()
+        if differ:
+            return True
+        for i, x in leaving[a]:
+            for j, y in leaving[b]:
+                if x[INPUT] == y[INPUT] and max(x[U], y[U]) < min(x[V], y[V]):
+                    after = (x[TO], y[TO], differ or i != j)
+                    if after not in seen:
+                        seen.add(after)
+                        todo.append(after)
+    return False
+
+
+def find_split(table):
+    reach = reachable(table)
+    for i, a in enumerate(table.rows):
+        if a[FROM] in reach:
+            for j in range(i + 1, len(table.rows)):
+                b = table.rows[j]
+                if b[FROM] == a[FROM] and b[INPUT] == a[INPUT] and max(a[U], b[U]) < min(a[V], b[V]):
+                    return i, j
+    return None
+
+
+CAP = MAX_D                                     # D is at most 239: sums of v from 240 on are all alike
+BELOW_CAP = (1 << CAP) - 1
+
+
+class Walks:
+    """All walks from a state with a sum of u of at most `most`: at[x][s] is the set of the sums of v of the walks that
+    end in state s with a sum of u of at most x (the empty walk too). A set is a number whose bit y says that y is in
+    it; bit 240 stands for all from 240 on."""
+
+    def __init__(self, table, leaving, start, most):
+        exact = [[0] * table.states for _ in range(most + 1)]
+        exact[0][start] = 1
+        for x in range(most + 1):
+            for s, sums in enumerate(exact[x]):
+                if sums:
+                    for u, v, to in leaving[s]:
+                        if x + u <= most:
+                            longer = sums << v
+                            if longer >> CAP:
+                                longer = longer & BELOW_CAP | 1 << CAP
+                            exact[x + u][to] |= longer
+        self.at = [exact[0]]
+        for row in exact[1:]:
+            self.at.append([a | b for a, b in zip(self.at[-1], row)])
+
+
+def find_turning(table):
+    """The lowest-numbered reachable transition that can be step k of a turning pair, or None."""
+    if not table.rows:
+        return None
+    reach = reachable(table)
+    leaving = [[(r[U], min(r[V], CAP), r[TO]) for r in table.rows if r[FROM] == s] for s in range(table.states)]
+    least = min(r[D] for r in table.rows)
+    walks = {}
+    for k, first in enumerate(table.rows):
+        if first[FROM] not in reach:
+            continue
+        start = first[TO]
+        if start not in walks:
+            most = max(r[D] for r in table.rows if r[TO] == start and r[FROM] in reach) - least
+            walks[start] = Walks(table, leaving, start, most)
+        at = walks[start].at
+        for last in table.rows:
+            difference = first[D] - last[D]
+            room = difference - 1 - last[U]     # U < D: the walk before m has at most this sum of u
+            if room >= 0 and at[room][last[FROM]] >> max(0, difference - last[V]):
+                return k
+    return None
+
+
+def find_turning_by_traces(table):
+    """The same by going through all walks one by one. None if there are too many, else (k or None,)."""
+    reach = reachable(table)
+    leaving = [[r for r in table.rows if r[FROM] == s] for s in range(table.states)]
+    budget = 3000
+    for k, first in enumerate(table.rows):
+        if first[FROM] not in reach:
+            continue
+        todo = [(first[TO], 0, 0)]
+        while todo:
+            state, us, vs = todo.pop()
+            for r in leaving[state]:
+                budget -= 1
+                if budget < 0:
+                    return None
+                if us + r[U] < first[D] - r[D] <= vs + r[V]:
+                    return (k,)
+                if us + r[U] < MAX_D:
+                    todo.append((r[TO], us + r[U], vs + r[V]))
+    return (None,)
+
+
+def judge(table):
+    """('strict',), ('split', I, J) or ('turning', transition)."""
+    split = find_split(table)
+    if len(table.rows) <= 64 and word_for_two_traces(table) != (split is not None):
+        raise Disagreement("split by pairs and by words")
+    if split is not None:
+        return ("split",) + split
+    k = find_turning(table)
+    if len(table.rows) <= 12:
+        other = find_turning_by_traces(table)
+        if other is not None and other[0] != k:
+            raise Disagreement("turning by sets and by traces")
+    return ("strict",) if k is None else ("turning", k)
+
+
+# ---------------------------------------------------------------------------------------------------------------------
+# What a call must do: its answer and the final content of all buffers
+
+class Buf:
+    """A lent buffer: its content, and its length if that is more (zeros beyond)."""
+
+    def __init__(self, data, length=None):
+        self.data, self.length = bytes(data), len(data) if length is None else length
+
+
+def u16s(data, count):
+    return list(struct.unpack_from("<%dH" % count, data, 0))
+
+
+def u32s(data, count, at=0):
+    return list(struct.unpack_from("<%dI" % count, data, at))
+
+
+def put(old, new):
+    return new + old[len(new):]
+
+
+def take_trace(table, buf):
+    """The rows of a trace, or None if it is refused with 6."""
+    count = buf.length // 2
+    if buf.length % 2 or not 1 <= count <= MAX_STEPS:
+        return None
+    numbers = u16s(buf.data, count)
+    if any(i >= len(table.rows) for i in numbers):
+        return None
+    rows = [table.rows[i] for i in numbers]
+    return rows if joined(rows) else None
+
+
+class Want:
+    """What the law asks of one case. check() returns None or what is wrong."""
+
+    def __init__(self, bufs):
+        self.contents = [b.data for b in bufs]      # as they must be after the call
+        self.answer = 0
+        self.shown = None                           # for a table verdict with a free trace: checks the witness
+
+    def kind(self, call):
+        """For the tally."""
+        if self.shown is not None:
+            return self.shown[1][0]
+        status = unpack(self.answer)[0]
+        if status == TURNING:
+            return "turning"
+        return "refused %d" % status if status else {JUDGE: "strict", JUDGE_TRACE: "steady", REPLAY: "replayed",
+                                                     REWRITE: "written"}[call]
+
+    def text(self):
+        if self.shown is not None:
+            return "%s" % (self.shown[1],)
+        return show(self.answer)
+
+    def check(self, answer, contents, names):
+        if self.shown is None:
+            if answer != self.answer:
+                return "answer %s, wanted %s" % (show(answer), show(self.answer))
+            for name, is_now, must in zip(names, contents, self.contents):
+                if is_now != must:
+                    at = next(i for i in range(len(must)) if is_now[i] != must[i])
+                    return "%s has %d at byte %d, wanted %d" % (name, is_now[at], at, must[at])
+            return None
+        if contents[0] != self.contents[0]:
+            return "the file was changed"
+        return check_witness(*self.shown, answer, self.contents, contents)
+
+
+def check_witness(table, verdict, answer, old, new):
+    status, first, second, n = unpack(answer)
+    if status != {"split": SPLIT, "turning": TURNING}[verdict[0]]:
+        return "answer %s, wanted %s" % (show(answer), verdict)
+    if not 1 <= n <= TABLE_TRACE:
+        return "%d steps are shown" % n
+    numbers = u16s(new[1], n)
+    if any(i >= len(table.rows) for i in numbers):
+        return "the shown trace names no transition: %s" % numbers
+    rows = [table.rows[i] for i in numbers]
+    if rows[0][FROM] != table.initial:
+        return "the shown trace does not begin in the initial state: %s" % numbers
+    if not joined(rows):
+        return "the shown trace is not joined: %s" % numbers
+    if new[1][2 * n:] != old[1][2 * n:]:
+        return "an unused trace place was changed"
+    if verdict[0] == "split":
+        _, i, j = verdict
+        if (first, second) != (i, j):
+            return "split %d %d, wanted %d %d" % (first, second, i, j)
+        if numbers[-1] != i:
+            return "the first trace ends in %d, not in %d" % (numbers[-1], i)
+        other = rows[:-1] + [table.rows[j]]
+        gaps = late_word(rows[:-1]) + [256 * min(table.rows[i][V], table.rows[j][V])]
+        stamps = u32s(new[2], n)
+        if stamps != stamps_of(gaps):
+            return "stamps %s, wanted %s" % (stamps, stamps_of(gaps))
+        gaps = [b - a for a, b in zip([0] + stamps, stamps)]
+        if not (joined(other) and activates(gaps, rows, 256) and activates(gaps, other, 256) and
+                all(a[INPUT] == b[INPUT] for a, b in zip(rows, other)) and rows != other):
+            return "the shown word does not activate two traces"
+        used = 4 * n
+    else:
+        k, m = first, second
+        if m != n:
+            return "M is %d, the shown trace has %d steps" % (m, n)
+        if not 1 <= k < m:
+            return "K is %d, M is %d" % (k, m)
+        if numbers[k - 1] != verdict[1]:
+            return "step K is transition %d, wanted the lowest that turns, %d" % (numbers[k - 1], verdict[1])
+        if numbers.index(verdict[1]) != k - 1:
+            return "K is not the first place of transition %d" % verdict[1]
+        late, early = u32s(new[2], n), u32s(new[2], n, 4 * n)
+        if late != stamps_of(late_word(rows)):
+            return "late word %s, wanted %s" % (late, stamps_of(late_word(rows)))
+        if early != stamps_of(early_word(rows, k, m)):
+            return "early word %s, wanted %s" % (early, stamps_of(early_word(rows, k, m)))
+        orders = []
+        for word in (late, early):
+            gaps = [b - a for a, b in zip([0] + word, word)]
+            if not activates(gaps, rows, 256):
+                return "a shown word does not activate the trace"
+            orders.append([step for _, step in responses(gaps, rows, 256)])
+        if not orders[0].index(k) < orders[0].index(m):
+            return "under the late word step K is not before step M"
+        if not orders[1].index(m) < orders[1].index(k):
+            return "under the early word step M is not before step K"
+        used = 8 * n
+    if new[2][used:] != old[2][used:]:
+        return "an unused stamp place was changed"
+    return None
+
+
+VERDICTS = {}
+
+
+def verdict_on(data, table):
+    if data not in VERDICTS:
+        if len(VERDICTS) > 500:
+            VERDICTS.clear()
+        VERDICTS[data] = judge(table)
+    return VERDICTS[data]
+
+
+def law(call, start, bufs):
+    """What document 01 asks of a call with these buffers."""
+    want = Want(bufs)
+    number, table = read_file(bufs[0].data, bufs[0].length)
+    if number:
+        want.answer = pack(number, table)
+        return want
+    if call == REWRITE:
+        data = write_file(table)
+        if bufs[1].length < len(data):
+            want.answer = pack(8)
+        else:
+            want.answer = pack(0, len(data))
+            want.contents[1] = put(want.contents[1], data)
+        return want
+    if call == JUDGE:
+        if bufs[1].length // 2 < TABLE_TRACE or bufs[2].length // 4 < TABLE_STAMPS:
+            want.answer = pack(8)
+            return want
+        verdict = verdict_on(bufs[0].data, table)
+        if verdict[0] != "strict":
+            want.shown = (table, verdict)
+        return want
+    rows = take_trace(table, bufs[1])
+    if rows is None:
+        want.answer = pack(6)
+        return want
+    n = len(rows)
+    if call == JUDGE_TRACE:
+        if bufs[2].length // 4 < 2 * n:
+            want.answer = pack(8)
+            return want
+        pair = turning_pair(rows)
+        if n <= 5:
+            other = turning_pair_by_words(rows)
+            if other is not None and other[0] != pair:
+                raise Disagreement("a trace turns by sums and by words")
+        if pair is not None:
+            want.answer = pack(TURNING, *pair)
+            stamps = stamps_of(late_word(rows)) + stamps_of(early_word(rows, *pair))
+            want.contents[2] = put(want.contents[2], struct.pack("<%dI" % (2 * n), *stamps))
+        return want
+    if bufs[2].length != 4 * n:
+        want.answer = pack(7)
+        return want
+    if bufs[3].length // 2 < n or bufs[4].length // 4 < n:
+        want.answer = pack(8)
+        return want
+    stamps = u32s(bufs[2].data, n)
+    gaps = [(b - a) % TURN for a, b in zip([start] + stamps, stamps)]
+    for j, (g, r) in enumerate(zip(gaps, rows), 1):
+        if not activates([g], [r], 256):
+            want.answer = pack(9, j)
+            return want
+    order = responses(gaps, rows, 256)
+    want.contents[3] = put(want.contents[3], struct.pack("<%dH" % n, *(step for _, step in order)))
+    want.contents[4] = put(want.contents[4], struct.pack("<%dI" % n, *(due for due, _ in order)))
+    return want
+
+
+# ---------------------------------------------------------------------------------------------------------------------
+# The driver
+
+AFTER, BEFORE, LOOSE = 0, 1, 2
+LAYOUTS = {AFTER: "forbidden pages after", BEFORE: "forbidden pages before", LOOSE: "guard bytes on both sides"}
+GUARD = 64
+NO_MEMORY = 255
+
+
+class Lost(Exception):
+    pass
+
+
+class Driver:
+    def __init__(self, command):
+        self.command = command
+        self.process = None
+
+    def open(self):
+        self.process = subprocess.Popen(self.command, stdin=subprocess.PIPE, stdout=subprocess.PIPE, bufsize=0)
+        os.set_blocking(self.process.stdin.fileno(), False)
+
+    def close(self):
+        if self.process is not None:
+            self.process.stdin.close()
+            self.process.stdout.close()
+            try:
+                self.process.wait(5)
+            except subprocess.TimeoutExpired:
+                self.process.kill()
+                self.process.wait()
+            self.process = None
+
+    def exchange(self, data, size):
+        """Writes a request and reads `size` bytes of the answer (fewer if the driver had no memory)."""
+        out, into = self.process.stdin.fileno(), self.process.stdout.fileno()
+        data, got, end = memoryview(data), bytearray(), time.monotonic() + 90
+        while len(got) < size:
+            if len(got) >= 5 and got[4] == NO_MEMORY and len(got) >= 21:
+                break
+            ready = select.select([into], [out] if data else [], [], max(0.1, end - time.monotonic()))
+            if not ready[0] and not ready[1]:
+                raise Lost("the driver does not answer")
+            if ready[1]:
+                try:
+                    data = data[os.write(out, data[:65536]):]
+                except BlockingIOError:
+                    pass
+                except BrokenPipeError:
+                    raise Lost("the driver ended") from None
+            if ready[0]:
+                some = os.read(into, 1 << 20)
+                if not some:
+                    raise Lost("the driver ended")
+                got += some
+        return bytes(got)
+
+    def ask(self, call, start, bufs, guards, layout, null_empty):
+        """(signal or 0, answer, contents, guards, helpers agree)"""
+        if self.process is None:
+            self.open()
+        request = [b"SGRQ", struct.pack("<BBBBI", call, layout, null_empty, len(bufs), start)]
+        for b, guard in zip(bufs, guards):
+            request += [struct.pack("<QI", b.length, len(b.data)), guard, b.data]
+        size = 21 + sum(GUARD + len(b.data) for b in bufs)
+        try:
+            got = self.exchange(b"".join(request), size)
+        except Lost:
+            self.close()
+            raise
+        outcome, answer = got[4], int.from_bytes(got[5:13], "little")
+        if got[:4] != b"SGRS":
+            raise Lost("the driver's answer is none")
+        contents, after, at = [], [], 21
+        if outcome != NO_MEMORY:
+            for b in bufs:
+                after.append(got[at:at + GUARD])
+                contents.append(got[at + GUARD:at + GUARD + len(b.data)])
+                at += GUARD + len(b.data)
+        return outcome, answer, contents, after, struct.unpack("<4H", got[13:21]) == unpack(answer)
+
+
+class Case:
+    """One case. `pinned` is what document 01 itself prints for it, beside what the law says: an answer, or a function
+    of answer and contents that returns None or what is wrong."""
+
+    def __init__(self, call, bufs, start=0, name="", pinned=None):
+        self.call, self.start, self.name, self.pinned = call, start, name, pinned
+        self.bufs = [b if isinstance(b, Buf) else Buf(b) for b in bufs]
+
+
+def try_case(driver, case, rng):
+    """None, 'skipped', or what is wrong."""
+    want = law(case.call, case.start, case.bufs)
+    case.kind = want.kind(case.call)
+    names = BUFFERS[case.call]
+    null = rng.randrange(2)
+    layouts = [(AFTER, null), (BEFORE, 1 - null)]
+    if rng.randrange(4) == 0:
+        layouts.append((LOOSE, null))
+    for layout, null_empty in layouts:
+        guards = [rng.randbytes(GUARD) for _ in case.bufs]
+        where = "(%s%s)" % (LAYOUTS[layout], ", empty buffers NULL" if null_empty else "")
+        try:
+            outcome, answer, contents, after, agree = driver.ask(case.call, case.start, case.bufs, guards, layout,
+                                                                 null_empty)
+        except Lost as lost:
+            return "%s %s; wanted %s" % (lost, where, want.text())
+        if outcome == NO_MEMORY:
+            return "skipped"
+        if outcome:
+            return "ended by %s %s; wanted %s" % (signal.Signals(outcome).name, where, want.text())
+        if not agree:
+            return "the header's helpers take %#x apart wrongly" % answer
+        wrong = want.check(answer, contents, names)
+        if wrong is None and case.pinned is not None:
+            if callable(case.pinned):
+                wrong = case.pinned(answer, contents)
+            elif answer != case.pinned:
+                wrong = "answer %s, document 01 has %s" % (show(answer), show(case.pinned))
+        if wrong is None:
+            for name, guard, is_now in zip(names, guards, after):
+                if guard != is_now:
+                    wrong = "guard bytes of %s were changed" % name
+        if wrong is not None:
+            return "%s %s" % (wrong, where)
+    return None
+
+
+# ---------------------------------------------------------------------------------------------------------------------
+# Random tables
+
+def finish(rng, states, initial, rows, inputs="apart", shuffle=None):
+    """Gives letters, numbers the transitions, leaves no two equal. Rows are [from, to, u, v, d] or whole rows."""
+    whole = []
+    for r in rows:
+        if len(r) == 5:
+            a, b, u, v, d = r
+            r = [a, None, rng.choice((0, 1, 2, rng.randrange(256))), b, u, v, d]
+        whole.append(list(r))
+    if shuffle if shuffle is not None else rng.randrange(2):
+        rng.shuffle(whole)
+    whole = whole[:MAX_TRANSITIONS]
+    used = {}
+    for r in whole:
+        if r[INPUT] is None:
+            if inputs == "apart":
+                if r[FROM] not in used:
+                    used[r[FROM]] = list(range(256)) if rng.randrange(2) else rng.sample(range(256), 256)
+                r[INPUT] = used[r[FROM]].pop(0)
+            elif inputs == "few":
+                r[INPUT] = rng.randrange(3)
+            else:
+                r[INPUT] = rng.randrange(256)
+    seen, kept = set(), []
+    for r in whole:
+        for _ in range(300):
+            if tuple(r) not in seen:
+                seen.add(tuple(r))
+                kept.append(r)
+                break
+            r[OUTPUT] = (r[OUTPUT] + 1) % 256
+    return Table(states, initial, kept)
+
+
+def renamed(rng, table):
+    """The same table with other state numbers."""
+    names = rng.sample(range(table.states), table.states)
+    return Table(table.states, names[table.initial],
+                 [(names[r[FROM]], r[INPUT], r[OUTPUT], names[r[TO]]) + r[U:] for r in table.rows])
+
+
+def guard_of(rng, low, width):
+    u = rng.randint(1, low)
+    return u, min(MAX_V, u + rng.randint(1, width))
+
+
+def clip(d):
+    return max(1, min(MAX_D, d))
+
+
+def shape_tiny(rng):
+    states = rng.randint(1, 4)
+    low, width, most = rng.choice((1, 2, 4)), rng.choice((1, 2, 4)), rng.choice((3, 6, 12, 30))
+    rows = [[rng.randrange(states), rng.randrange(states), *guard_of(rng, low, width), rng.randint(1, most)]
+            for _ in range(rng.choice((0, 1, 2, 2, 3, 3, 4, 5, 6, 8)))]
+    return finish(rng, states, rng.randrange(states), rows, rng.choice(("apart", "apart", "few")))
+
+
+def around(rng, us, vs):
+    """A difference of delays at or next to one of the limits, or between."""
+    return rng.choice((us - 1, us, us, us + 1, us + 1, vs - 1, vs, vs, vs + 1, vs + 1, rng.randint(us, vs)))
+
+
+def delays(rng, difference):
+    """d of k and d of m with this difference, or the nearest."""
+    difference = max(-239, min(239, difference))
+    dm = rng.randint(max(1, 1 - difference), min(MAX_D, MAX_D - difference))
+    return dm + difference, dm
+
+
+def shape_pair(rng):
+    """A way to k, then a walk, then m; the difference of delays next to a limit."""
+    before, between = rng.choice((0, 0, 1, 2, 5)), rng.choice((0, 0, 1, 1, 2, 3, 6, 12))
+    low, width = rng.choice((1, 3, 10, 40)), rng.choice((1, 2, 5, 20))
+    guards = [guard_of(rng, low, width) for _ in range(between + 1)]
+    us, vs = sum(g[0] for g in guards), sum(g[1] for g in guards)
+    dk, dm = delays(rng, around(rng, us, vs))
+    state, rows = 0, []
+    for _ in range(before):
+        rows.append([state, state + 1, *guard_of(rng, 3, 3), rng.choice((1, dm, clip(dk - 1)))])
+        state += 1
+    rows.append([state, state + 1, *guard_of(rng, 4, 4), dk])
+    state += 1
+    so_far, way = 0, rng.randrange(3)
+    for u, v in guards[:-1]:
+        so_far += u
+        d = clip(dk - so_far) if way == 0 else dk if way == 1 else rng.randint(1, 240)
+        rows.append([state, state + 1, u, v, d])
+        state += 1
+    rows.append([state, state + 1, *guards[-1], dm])
+    table = finish(rng, state + 2, 0, rows, rng.choice(("apart", "apart", "any")))
+    return renamed(rng, table) if rng.randrange(2) else table
+
+
+def shape_ways(rng):
+    """Several walks with different sums from k's arrival to m's departure; only some of them turn."""
+    rows, nxt, ways = [], 3, []
+    for _ in range(rng.choice((2, 2, 3, 4))):
+        steps = rng.choice((1, 1, 2, 3))
+        low, width = rng.choice((1, 2, 8, 30)), rng.choice((1, 2, 10, 40))
+        guards = [guard_of(rng, low, width) for _ in range(steps)]
+        state = 1
+        for i, (u, v) in enumerate(guards):
+            to = 2 if i == steps - 1 else nxt
+            nxt += to == nxt
+            rows.append([state, to, u, v, None])
+            state = to
+        ways.append((sum(g[0] for g in guards), sum(g[1] for g in guards)))
+    um, vm = guard_of(rng, 3, 3)
+    us, vs = rng.choice(ways)
+    dk, dm = delays(rng, around(rng, us + um, vs + vm))
+    middle = rng.choice((dk, 240, dm, rng.randint(1, 240)))
+    for r in rows:
+        r[4] = middle
+    if rng.randrange(3) == 0:
+        rows.append([2, 1, *guard_of(rng, 9, 5), middle])
+    rows = [[0, 1, *guard_of(rng, 3, 3), dk]] + rows + [[2, nxt, um, vm, dm]]
+    table = finish(rng, nxt + 1, 0, rows, shuffle=rng.randrange(3) == 0)
+    return renamed(rng, table) if rng.randrange(2) else table
+
+
+def shape_loop(rng):
+    """Long walks: loops of small steps between a great delay and a small one."""
+    rows = [[0, 1, *guard_of(rng, 5, 5), rng.choice((240, 239, rng.randint(2, 240)))]]
+    states = rng.randint(1, 4)
+    for s in range(1, states + 1):
+        rows.append([s, s % states + 1, *guard_of(rng, rng.choice((1, 1, 3, 9)), rng.choice((1, 1, 2, 9))),
+                     rng.choice((240, rows[0][4], rng.randint(1, 240)))])
+    rows.append([rng.randint(1, states), states + 1, *guard_of(rng, rng.choice((1, 20, 238)), rng.choice((1, 5))),
+                 rng.choice((1, 1, 2, rng.randint(1, 240)))])
+    return finish(rng, states + 2, 0, rows, shuffle=rng.randrange(3) == 0)
+
+
+def shape_steady(rng, states=None, count=None):
+    """Delays that fall along a walk at most as fast as the lower sums grow, often exactly as fast: strict. Then perhaps
+    one number is changed by one."""
+    states = states or rng.randint(2, 10)
+    count = count or rng.randint(1, 30)
+    top = rng.choice((5, 20, 240))
+    level = [rng.randint(1, top) for _ in range(states)]
+    rows = []
+    for i in range(count):
+        a = i % states if i < states else rng.randrange(states)
+        b = (a + 1) % states if i < states else rng.randrange(states)
+        d = level[b] if rng.randrange(3) else rng.randint(1, level[b])
+        u = max(1, level[a] - d) + rng.choice((0, 0, 0, 1, 3))
+        rows.append([a, b, u, u + rng.choice((1, 2, rng.randint(1, 50))), d])
+    change = rng.randrange(5)
+    row = rng.choice(rows)
+    if change == 1:
+        row[4] = clip(row[4] + 1)
+    elif change == 2:
+        row[4] = clip(row[4] - 1)
+    elif change == 3 and row[2] > 1:
+        row[2] -= 1
+    if rng.randrange(3) == 0 and states < MAX_STATES - 1:
+        rows.append([0, states, 1, 2, 240])     # always overtaken by the next, which ends there
+        rows.append([states, states + 1, 1, 2, 1])
+        states += 2
+    return finish(rng, states, 0, rows, shuffle=True)
+
+
+def shape_dense(rng, states=None, count=None):
+    states = states or rng.randint(2, 8)
+    count = count or rng.randint(5, 60)
+    low, width, most = rng.choice((1, 3, 10, 60)), rng.choice((1, 3, 30)), rng.choice((4, 20, 80, 240))
+    base = rng.randint(1, MAX_D - most) if most < MAX_D and rng.randrange(2) else 1
+    rows = [[rng.randrange(states), rng.randrange(states), *guard_of(rng, low, width),
+             rng.randint(base, min(MAX_D, base + most))] for _ in range(count)]
+    return finish(rng, states, rng.randrange(states), rows, rng.choice(("apart", "apart", "apart", "any")))
+
+
+def shape_chain(rng):
+    """A long way to the states that matter, and a part that can't be reached."""
+    length = rng.choice((3, 10, 30, 31))
+    rows = [[s, s + 1, *guard_of(rng, 2, 2), rng.choice((1, 1, 2, 3))] for s in range(length)]
+    states = length + 1
+    end = length if rng.randrange(3) else rng.randint(0, length)
+    kind = rng.randrange(4)
+    if kind == 0:
+        rows.append([end, None, 5, end, 1, 4, 9])
+        rows.append([end, None, 6, end, rng.choice((3, 4)), 6, 9])
+        rows[-1][INPUT] = rows[-2][INPUT] = 7
+    elif kind == 1:
+        rows.append([end, end, 1, 2, 240])
+        rows.append([end, 0, *guard_of(rng, 2, 2), rng.randint(1, 240)])
+    elif kind == 2:
+        rows.append([end, rng.randrange(states), *guard_of(rng, 9, 9), rng.randint(1, 240)])
+        rows.append([rng.randrange(states), end, *guard_of(rng, 9, 9), rng.randint(1, 240)])
+    if states < MAX_STATES - 2:
+        a = states
+        states += 2
+        rows.append([a, 1, 3, a + 1, 1, 2, 20])
+        rows.append([a, 1, 4, a + 1, 1, 3, 20])
+        rows.append([a + 1, a, 1, 30, 2])
+        rows.append([a, rng.randrange(length), 1, 30, 2])
+    initial = 0 if rng.randrange(4) else rng.randrange(states)
+    table = finish(rng, states, initial, rows)
+    return renamed(rng, table) if rng.randrange(2) else table
+
+
+def shape_touching(rng):
+    """Equal inputs with guards that touch, overlap by little or much; like or unlike otherwise."""
+    states = rng.randint(1, 5)
+    rows = []
+    for _ in range(rng.randint(1, 6)):
+        s, letter, at = rng.randrange(states), rng.randrange(3), rng.randint(1, 5)
+        for _ in range(rng.randint(1, 4)):
+            top = at + rng.randint(1, 4)
+            d = rng.choice((10, 10, 11, 14))
+            rows.append([s, letter, rng.choice((0, 0, 1)), rng.randrange(states), at, top, d])
+            at = top - (rng.randrange(8) == 0 and top > 1)
+    return finish(rng, states, rng.randrange(states), rows)
+
+
+def shape_wide(rng):
+    """Great numbers: long guards, extreme delays and letters."""
+    states = rng.choice((1, 2, 5, 32))
+    rows = []
+    for _ in range(rng.randint(1, 20)):
+        u = rng.choice((1, 238, 239, 240, 4094, rng.randint(1, 4094)))
+        v = rng.choice((u + 1, 4095, rng.randint(u + 1, 4095)))
+        rows.append([rng.randrange(states), rng.choice((0, 255, rng.randrange(256))), rng.choice((0, 255)),
+                     rng.randrange(states), u, v, rng.choice((1, 2, 239, 240, rng.randint(1, 240)))])
+    return finish(rng, states, rng.randrange(states), rows)
+
+
+def shape_small_full(rng):
+    """256 transitions, few sums: quick to judge."""
+    states = rng.choice((1, 2, 32))
+    low = rng.choice((50, 1000, 4000))
+    rows = [[rng.randrange(states), rng.randrange(states), *guard_of(rng, low, 90), rng.randint(1, 240)]
+            for _ in range(256)]
+    return finish(rng, states, rng.randrange(states), rows, rng.choice(("apart", "any")))
+
+
+def shape_full(rng):
+    """32 states and 256 transitions."""
+    if rng.randrange(2):
+        return shape_steady(rng, 32, 256)
+    return shape_dense(rng, 32, 256)
+
+
+def shape_heavy(rng):
+    """32 states and 256 transitions with very many walks: a core of small steps with great delays, from which slow
+    steps with smaller delays lead on, D = U or nearly so. One bridge out of the core may turn, late in the file."""
+    rows = []
+    for i in range(250):
+        a, b = (i + 1, (i + 1) % 28 + 1) if i < 28 else (rng.randint(1, 28), rng.randint(1, 28))
+        if i % 4 or i < 28:
+            u, d = rng.randint(1, 4), rng.choice((239, 240))
+        else:
+            d = rng.randint(1, 239)
+            u = 240 - d
+        rows.append([a, b, u, u + rng.randint(1, 3), d])
+    if rng.randrange(3) == 0:
+        rows[rng.randrange(28, 250)][2] -= 1
+        rows = [r for r in rows if r[2] > 0]
+    rows.insert(0, [0, 1, 1, 2, 240])
+    rows += [[0, 30, 1, 2, 240], [30, 31, 1, 2, 1]]     # always overtaken
+    if rng.randrange(2):
+        rows += [[rng.randint(1, 28), 29, 239, 240, 240], [29, 29, 1, 2, 240], [29, 31, rng.randint(1, 238), 239, 1]]
+    return finish(rng, 32, 0, rows, shuffle=False)
+
+
+SMALL = (shape_tiny, shape_tiny, shape_tiny, shape_pair, shape_pair, shape_pair, shape_ways, shape_ways, shape_ways,
+         shape_steady, shape_steady, shape_dense, shape_chain, shape_touching, shape_wide, shape_loop)
+
+
+def any_table(rng):
+    if rng.randrange(25) == 0:
+        return shape_small_full(rng)
+    return rng.choice(SMALL)(rng)
+
+
+# ---------------------------------------------------------------------------------------------------------------------
+# Random traces, stamps, rooms, damage
+
+def random_trace(rng, table, length):
+    """Transition numbers of a walk of at most this length; [] if the table has none."""
+    if not table.rows:
+        return []
+    leaving = [[i for i, r in enumerate(table.rows) if r[FROM] == s] for s in range(table.states)]
+    starts = leaving[table.initial] if rng.randrange(2) else []
+    trace = [rng.choice(starts) if starts else rng.randrange(len(table.rows))]
+    while len(trace) < length and leaving[table.rows[trace[-1]][TO]]:
+        trace.append(rng.choice(leaving[table.rows[trace[-1]][TO]]))
+    return trace
+
+
+def table_for_trace(rng):
+    """A table made for one trace, with the difference of delays of some pair next to a limit."""
+    n = rng.choice((2, 2, 3, 3, 4, 5, 8, 20, 60, 240))
+    k = rng.randint(1, n - 1)
+    m = rng.choice((k + 1, n, rng.randint(k + 1, n)))
+    low = rng.choice((1, 1, 3, 12))
+    guards = [guard_of(rng, low, rng.choice((1, 2, 6))) for _ in range(n)]
+    us, vs = sum(g[0] for g in guards[k:m]), sum(g[1] for g in guards[k:m])
+    dk, dm = delays(rng, around(rng, us, vs))
+    middle = rng.choice((dk, dm, 240, 1, None))
+    states = rng.choice((1, 2, 32))
+    rows = []
+    for j, (u, v) in enumerate(guards, 1):
+        d = dk if j == k else dm if j == m else middle if middle is not None else rng.randint(1, 240)
+        rows.append([j % states, None, j % 256, (j + 1) % states, u, v, d])
+    table = finish(rng, states, rng.randrange(states), rows, rng.choice(("apart", "any")), shuffle=False)
+    return table, list(range(min(n, len(table.rows))))
+
+
+def table_and_trace(rng):
+    if rng.randrange(3) == 0:
+        return table_for_trace(rng)
+    table = any_table(rng)
+    return table, random_trace(rng, table, rng.choice((1, 2, 2, 3, 3, 4, 5, 8, 20, 100, 239, 511, 512)))
+
+
+def spoiled_trace(rng, table, trace):
+    """Bytes of a trace that is mostly refused."""
+    trace = list(trace) or [0]
+    kind = rng.randrange(7)
+    if kind == 0:
+        return b""
+    if kind == 1:
+        data = struct.pack("<%dH" % len(trace), *trace)
+        return data + rng.randbytes(1) if rng.randrange(2) else data[:-1]
+    if kind == 2:
+        trace[rng.randrange(len(trace))] = rng.choice((len(table.rows), len(table.rows) + 1, 256, 257, 65535, 32768))
+    elif kind == 3:
+        trace[rng.randrange(len(trace))] = rng.randrange(max(1, len(table.rows)))
+    elif kind == 4:
+        trace = (trace * 520)[:rng.choice((513, 514, 1024))]
+    elif kind == 5:
+        rng.shuffle(trace)
+    else:
+        trace = [rng.randrange(300) for _ in range(rng.randint(1, 9))]
+    return struct.pack("<%dH" % len(trace), *trace)
+
+
+def random_start(rng):
+    return rng.choice((0, 1, TURN - 1, TURN - rng.randint(1, 5000), TURN - rng.randint(1, 1 << 20), TURN // 2,
+                       rng.randrange(TURN)))
+
+
+def random_gaps(rng, rows):
+    """Gaps inside the guards, at the limits or anywhere; sometimes so that due times are equal."""
+    way = rng.choice(("late", "early", "limits", "any", "any", "ties", "ties"))
+    gaps, now, dues = [], 0, []
+    for r in rows:
+        low, high = 256 * r[U] + 1, 256 * r[V]
+        gap = high if way == "late" else low if way == "early" else rng.choice((low, high)) if way == "limits" \
+            else rng.randint(low, high)
+        if way == "ties" and dues:
+            wanted = [due - now - 256 * r[D] + rng.choice((0, 0, 0, 1, -1)) for due in dues[-8:]]
+            wanted = [g for g in wanted if low <= g <= high]
+            gap = rng.choice(wanted) if wanted else gap
+        gaps.append(gap)
+        now += gap
+        dues.append(now + 256 * r[D])
+    return gaps
+
+
+def spoil_gap(rng, rows, gaps):
+    j = rng.randrange(len(gaps))
+    r = rows[j]
+    gaps[j] = rng.choice((256 * r[U], 256 * r[U] - 1, 256 * r[V] + 1, 0, 1, TURN - 1, TURN - 256 * r[V],
+                          rng.randrange(TURN))) % TURN
+
+
+def room(rng, needed, width):
+    """Bytes of random content for a room that needs so many places: enough or not, whole or not."""
+    size = needed * width + rng.choice((0, 0, 0, 0, 1, width - 1, width, 40, -1, -1, -width, -needed * width))
+    return rng.randbytes(max(0, size))
+
+
+def mutate(rng, data):
+    """One damage."""
+    data = bytearray(data)
+    kind = rng.choice((0, 1, 2, 3, 4, 5, 6, 6, 6, 6, 7, 8, 9, 10, 11))
+    records = max(1, (len(data) - 12) // 18)
+    at = 8 + 18 * rng.randrange(records)
+    if kind == 0:
+        del data[rng.randrange(len(data) + 1):]
+    elif kind == 1 and data:
+        data[rng.randrange(len(data))] ^= 1 << rng.randrange(8)
+    elif kind == 2 and data:
+        data[rng.randrange(len(data))] = rng.randrange(256)
+    elif kind == 3:
+        data += rng.choice((bytes(rng.randint(1, 20)), rng.randbytes(rng.randint(1, 6)), record(3, ()),
+                            record(2, (0, 0, 0, 0, 1, 2, 3)), record(1, (1, 0))))
+    elif kind == 4:
+        del data[at:at + rng.choice((1, 2, 4, 17, 18))]
+    elif kind == 5:
+        at = rng.choice((0, at, len(data) - 4))
+        data[at:at] = rng.choice((rng.randbytes(1), record(1, (3, 0)), record(3, ()), bytes(data[at:at + 18]),
+                                  record(rng.choice((0, 4, 5, 256, 513)), ())))
+    elif kind == 6 and len(data) >= at + 18:
+        field = rng.randrange(7)
+        limits = {FROM: (0, 1, 31, 32, 33, 65535), TO: (0, 1, 31, 32, 33), INPUT: (255, 256, 65535),
+                  OUTPUT: (255, 256, 65535), U: (0, 1, 4094, 4095, 65535), V: (0, 1, 2, 4095, 4096, 4096, 65535),
+                  D: (0, 1, 240, 241, 65535)}
+        struct.pack_into("<H", data, at + 4 + 2 * field, rng.choice(limits[field]))
+    elif kind == 7 and len(data) >= 8:
+        struct.pack_into("<H", data, rng.choice((4, 6)), rng.choice((0, 1, 2, 31, 32, 33, 65535)))
+    elif kind == 8 and len(data) >= at + 4:
+        struct.pack_into("<H", data, rng.choice((0, at, len(data) - 4)),
+                         rng.choice((0, 1, 2, 3, 4, 5, 6, 7, 14, 15, 16, 17, 18, 256 + 16, 65535)))
+    elif kind == 9 and len(data) >= at + 4:
+        struct.pack_into("<H", data, rng.choice((0, at, len(data) - 4)) + 2,
+                         rng.choice((0, 1, 2, 3, 4, 256 + 2, 512 + 3, 65535)))
+    elif kind == 10 and len(data) >= at + 18:
+        other = 8 + 18 * rng.randrange(records)
+        data[other:other + 18] = data[at:at + 18]
+    else:
+        data = bytearray(rng.randbytes(rng.randrange(40)))
+    return bytes(data)
+
+
+def damaged_file(rng):
+    if rng.randrange(20) == 0:
+        rows = [(0, i % 256, i // 256, 0, 1, 2, 3) for i in range(256)]
+        extra = rng.choice(((0, 7, 9, 0, 1, 2, 3), rows[5], (0, 7, 9, 0, 2, 2, 3)))
+        data = write_file(Table(1, 0, rows + [extra]))
+        if rng.randrange(2):
+            data = data[:rng.randint(8 + 18 * 256, len(data))]
+        return data
+    data = write_file(any_table(rng))
+    for _ in range(rng.choice((1, 1, 1, 2, 3))):
+        data = mutate(rng, data)
+    return data
+
+
+# ---------------------------------------------------------------------------------------------------------------------
+# Random cases: one function per kind
+
+def good_rooms(rng):
+    if rng.randrange(3):
+        return [rng.randbytes(540), rng.randbytes(2160)]
+    more = rng.choice((70, 70, 70, 70, 20000))
+    return [rng.randbytes(540 + rng.randint(0, more)), rng.randbytes(2160 + rng.randint(0, more))]
+
+
+def case_judge(rng):
+    return Case(JUDGE, [write_file(rng.choice(SMALL)(rng))] + good_rooms(rng))
+
+
+def case_judge_many(rng):
+    return Case(JUDGE, [write_file(shape_small_full(rng))] + good_rooms(rng))
+
+
+def case_judge_full(rng):
+    return Case(JUDGE, [write_file(shape_full(rng))] + good_rooms(rng))
+
+
+def case_judge_heavy(rng):
+    return Case(JUDGE, [write_file(shape_heavy(rng))] + good_rooms(rng))
+
+
+def case_judge_rooms(rng):
+    data = damaged_file(rng) if rng.randrange(4) == 0 else write_file(any_table(rng))
+    return Case(JUDGE, [data, room(rng, 270, 2), room(rng, 540, 4)])
+
+
+def case_trace(rng):
+    table, trace = table_and_trace(rng)
+    return Case(JUDGE_TRACE, [write_file(table), struct.pack("<%dH" % len(trace), *trace),
+                              rng.randbytes(8 * len(trace) + rng.choice((0, 0, 0, 0, 1, 3, 4, 100, 9000)))])
+
+
+def case_trace_wrong(rng):
+    table, trace = table_and_trace(rng)
+    data = damaged_file(rng) if rng.randrange(5) == 0 else write_file(table)
+    given = spoiled_trace(rng, table, trace) if rng.randrange(2) else struct.pack("<%dH" % len(trace), *trace)
+    return Case(JUDGE_TRACE, [data, given, room(rng, 2 * (len(given) // 2), 4)])
+
+
+def replay_case(rng, faults):
+    table, trace = table_and_trace(rng)
+    rows = [table.rows[i] for i in trace]
+    start = random_start(rng)
+    gaps = random_gaps(rng, rows)
+    data, given = write_file(table), struct.pack("<%dH" % len(trace), *trace)
+    n = len(trace)
+    if "file" in faults:
+        data = damaged_file(rng)
+    if "trace" in faults:
+        given = spoiled_trace(rng, table, trace)
+    if "gap" in faults and gaps:
+        for _ in range(rng.choice((1, 1, 2))):
+            spoil_gap(rng, rows, gaps)
+    stamps = stamps_of(gaps, start)
+    stamps = struct.pack("<%dI" % len(stamps), *stamps)
+    if "stamps" in faults:
+        cut = rng.choice((-4, -1, -3, 1, 3, 4, 8, -len(stamps)))
+        stamps = stamps[:cut] if cut < 0 else stamps + rng.randbytes(cut)
+    order = rng.randbytes(2 * n + rng.choice((0, 0, 0, 0, 0, 1, 2, 9, 5000)))
+    due = rng.randbytes(4 * n + rng.choice((0, 0, 0, 0, 0, 3, 9, 5000)))
+    if "room" in faults:
+        order, due = room(rng, n, 2), room(rng, n, 4)
+    return Case(REPLAY, [data, given, stamps, order, due], start)
+
+
+def case_replay(rng):
+    return replay_case(rng, ())
+
+
+def case_replay_wrong(rng):
+    return replay_case(rng, [f for f, weight in (("file", 8), ("trace", 4), ("stamps", 3), ("room", 3), ("gap", 2))
+                             if rng.randrange(weight) == 0])
+
+
+def case_rewrite(rng):
+    data = write_file(any_table(rng))
+    return Case(REWRITE, [data, room(rng, len(data), 1)])
+
+
+def case_rewrite_damaged(rng):
+    data = damaged_file(rng)
+    return Case(REWRITE, [data, rng.randbytes(rng.choice((len(data), len(data) + 30, 4620, 0)))])
+
+
+def case_rewrite_noise(rng):
+    """Full-sized files, cut or changed at one place."""
+    data = write_file(shape_small_full(rng))
+    kind = rng.randrange(4)
+    if kind == 0:
+        data = data[:rng.randrange(len(data))]
+    elif kind == 1:
+        changed = bytearray(data)
+        changed[rng.randrange(len(data))] ^= 1 << rng.randrange(8)
+        data = bytes(changed)
+    elif kind == 2:
+        data += rng.randbytes(rng.choice((1, 2, 3, 4, 5, 18, 4000)))
+    return Case(REWRITE, [data, rng.randbytes(rng.choice((4619, 4620, 4621, 9000)))])
+
+
+KINDS = [(case_judge, 300), (case_judge_many, 12), (case_judge_full, 6), (case_judge_heavy, 2), (case_judge_rooms, 60),
+         (case_trace, 200), (case_trace_wrong, 80), (case_replay, 160), (case_replay_wrong, 160), (case_rewrite, 60),
+         (case_rewrite_damaged, 160), (case_rewrite_noise, 30)]
+
+
+def random_case(seed, index):
+    rng = random.Random("sandgusset %d %d" % (seed, index))
+    make = rng.choices([k for k, _ in KINDS], [w for _, w in KINDS])[0]
+    case = make(rng)
+    case.name = "random %d (%s)" % (index, make.__name__[5:].replace("_", " "))
+    return case, rng
+
+
+# ---------------------------------------------------------------------------------------------------------------------
+# Fixed cases
+
+def fixed_cases():
+    rng = random.Random("fixed")
+    cases = []
+
+    def add(name, call, *bufs, start=0, pinned=None):
+        cases.append(Case(call, bufs, start, name, pinned))
+
+    def judged(name, table, pinned=None):
+        add(name, JUDGE, write_file(table), rng.randbytes(540), rng.randbytes(2160), pinned=pinned)
+
+    def u16(*numbers):
+        return struct.pack("<%dH" % len(numbers), *numbers)
+
+    def u32(*numbers):
+        return struct.pack("<%dI" % len(numbers), *numbers)
+
+    def traced(name, table, trace, pinned=None):
+        add(name, JUDGE_TRACE, write_file(table), u16(*trace), rng.randbytes(8 * len(trace)), pinned=pinned)
+
+    def replayed(name, table, trace, stamps, start=0, pinned=None):
+        add(name, REPLAY, write_file(table), u16(*trace), u32(*stamps), rng.randbytes(2 * len(trace)),
+            rng.randbytes(4 * len(trace)), start=start, pinned=pinned)
+
+    def rewritten(name, data, pinned=None):
+        add(name, REWRITE, data, rng.randbytes(5000), pinned=pinned)
+
+    def exactly(answer, **contents):
+        names = {"trace": 1, "stamps": 2, "order": 3, "due": 4}
+
+        def check(got, after):
+            if got != answer:
+                return "answer %s, document 01 has %s" % (show(got), show(answer))
+            for name, data in contents.items():
+                if after[names[name]][:len(data)] != data:
+                    return "%s differs from document 01" % name
+            return None
+        return check
+
+    strict, steady = pack(0), pack(0)
+
+    # --- document 01: the whole case
+    whole = Table(4, 0, [(0, 0, 1, 1, 5, 20, 40), (1, 0, 2, 2, 15, 20, 30), (2, 0, 3, 3, 10, 15, 10)])
+    file = write_file(whole)
+    if len(file) != 66:
+        raise Disagreement("the whole case's file")
+    judged("whole case: turning 1 3", whole,
+           exactly(pack(TURNING, 1, 3, 3), trace=u16(0, 1, 2), stamps=u32(5120, 10240, 14080, 5120, 8961, 11522)))
+    traced("whole case: the trace turns 1 3", whole, (0, 1, 2),
+           exactly(pack(TURNING, 1, 3), stamps=u32(5120, 10240, 14080, 5120, 8961, 11522)))
+    rewritten("whole case: the file is written as it was read", file, pack(0, 66))
+
+    # --- document 01: both sides of each limit
+    replayed("replay at 2560, 6912, 10496: order 1, 3, 2", whole, (0, 1, 2), (2560, 6912, 10496),
+             pinned=exactly(pack(0), order=u16(1, 3, 2), due=u32(12800, 13056, 14592)))
+    replayed("replay at 3840, 8192, 11008: order 3, 1, 2", whole, (0, 1, 2), (3840, 8192, 11008),
+             pinned=exactly(pack(0), order=u16(3, 1, 2), due=u32(13568, 14080, 15872)))
+    replayed("first stamp 5888: refusal 9, step 1", whole, (0, 1, 2), (5888, 10240, 14080), pinned=pack(9, 1))
+    for difference, turns in ((-2, 0), (0, 0), (3, 0), (6, 0), (4, 1), (5, 1)):
+        two = Table(3, 0, [(0, 0, 1, 1, 2, 7, 20 + difference), (1, 0, 2, 2, 3, 5, 20)])
+        name = "second guard (3,5], D = %d: %s" % (difference, "turning" if turns else "steady")
+        traced(name, two, (0, 1), pack(TURNING, 1, 2) if turns else steady)
+        judged(name + " (table)", two, pack(TURNING, 1, 2, 2) if turns else strict)
+    one = Table(1, 0, [(0, 0, 1, 0, 1, 2, 1)])
+    replayed("start 4,294,967,000, stamp 100: gap 396", one, (0,), (100,), 4294967000,
+             exactly(pack(0), order=u16(1), due=u32(396 + 256)))
+    judged("a table without transitions: strict", Table(1, 0, []), strict)
+    judged("32 states, no transitions: strict", Table(32, 31, []), strict)
+    dead_end = [(0, 0, 1, 1, 1, 2, 9), (1, 0, 2, 2, 3, 4, 5)]
+    judged("turning 1 2, though p is 4", Table(3, 0, dead_end), pack(TURNING, 1, 2, 2))
+    judged("the same with initial 2: strict", Table(3, 2, dead_end), strict)
+    judged("the same with initial 1: strict", Table(3, 1, dead_end), strict)
+
+    def long_enough(answer, _):
+        status, first, _, steps = unpack(answer)
+        return None if (status, first) == (TURNING, 1) and steps >= 121 else "fewer than 121 steps are shown"
+    long_loop = Table(3, 0, [(0, 1, 1, 1, 1, 2, 240), (1, 1, 2, 1, 1, 2, 240), (1, 2, 3, 2, 1, 2, 1)])
+    judged("from transition 0 no turning trace has fewer than 121 steps", long_loop, long_enough)
+    judged("guards (1,3] and (3,5]: no split", Table(1, 0, [(0, 0, 1, 0, 1, 3, 9), (0, 0, 2, 0, 3, 5, 9)]), strict)
+    judged("guards (1,4] and (3,5]: split", Table(1, 0, [(0, 0, 1, 0, 1, 4, 9), (0, 0, 2, 0, 3, 5, 9)]),
+           exactly(pack(SPLIT, 0, 1, 1), trace=u16(0), stamps=u32(1024)))
+    rewritten("v = 4,095 is read", write_file(Table(1, 0, [(0, 0, 0, 0, 1, 4095, 1)])), pack(0, 30))
+    rewritten("v = 4,096: refused 4", write_file(Table(1, 0, [(0, 0, 0, 0, 1, 4096, 1)])), pack(4, 8))
+    rewritten("empty file: refused 1 at 0", b"", pack(1, 0))
+    add("empty file, no rooms: refused 1 at 0 (judge)", JUDGE, b"", b"", b"", pinned=pack(1))
+    add("empty file, no rooms: refused 1 at 0 (judge_trace)", JUDGE_TRACE, b"", b"", b"", pinned=pack(1))
+    add("empty file, no rooms: refused 1 at 0 (replay)", REPLAY, b"", b"", b"", b"", b"", pinned=pack(1))
+    add("empty file, no rooms: refused 1 at 0 (rewrite)", REWRITE, b"", b"", pinned=pack(1))
+
+    # --- the reader: every cut, every changed bit, every limit
+    for cut in range(len(file)):
+        for call in CALLS:
+            add("whole case cut to %d bytes (%s)" % (cut, CALLS[call]), call, file[:cut],
+                *(rng.randbytes(6 if b == "trace" and call != JUDGE else 2160) for b in BUFFERS[call][1:]))
+    for bit in range(8 * len(file)):
+        changed = bytearray(file)
+        changed[bit // 8] ^= 1 << bit % 8
+        rewritten("whole case with bit %d changed" % bit, bytes(changed))
+        add("whole case with bit %d changed (judge)" % bit, JUDGE, bytes(changed), rng.randbytes(540),
+            rng.randbytes(2160))
+    head, end = record(1, (3, 1)), record(3, ())
+    middle = record(2, (0, 7, 8, 2, 3, 4, 5))
+    rewritten("head alone: 1 at 8", head, pack(1, 8))
+    rewritten("head and transition: 1 at 26", head + middle, pack(1, 26))
+    for more in range(1, 6):
+        rewritten("%d bytes after the end: 2 there" % more, head + middle + end + bytes(more), pack(2, 30))
+        rewritten("%d bytes left where a record must begin" % more, head + b"\x10\x00\x02\x00\x00"[:more],
+                  pack(1, 8))
+    rewritten("a second end: 2", head + end + end, pack(2, 12))
+    rewritten("a second head: 2", head + head + end, pack(2, 8))
+    rewritten("a second head with a wrong length: 2", head + record(1, (3, 1), 99) + end, pack(2, 8))
+    rewritten("no head: 2 at 0", middle + end, pack(2, 0))
+    rewritten("an end alone: 2 at 0", end, pack(2, 0))
+    rewritten("four bytes of an unknown kind: 2", head + record(4, (), 9), pack(2, 8))
+    for kind in (0, 4, 258, 259, 65535):
+        rewritten("kind %d: 2" % kind, head + record(kind, (0, 7, 8, 2, 3, 4, 5)) + end, pack(2, 8))
+    for length in (0, 2, 15, 17, 18, 272, 65535):
+        rewritten("transition of length %d: 1" % length, head + record(2, (0, 7, 8, 2, 3, 4, 5), length) + end,
+                  pack(1, 8))
+    for length in (0, 4, 5, 7, 8, 262):
+        rewritten("head of length %d: 1" % length, record(1, (3, 1), length) + end, pack(1, 0))
+    for length in (0, 1, 3, 4, 258):
+        rewritten("end of length %d: 1" % length, head + record(3, (), length) + bytes(4), pack(1, 8))
+    rewritten("an end with a body: 1", head + record(3, (0,)), pack(1, 8))
+    for states, initial in ((0, 0), (1, 0), (1, 1), (2, 1), (32, 31), (32, 32), (33, 0), (65535, 0), (256 + 3, 1),
+                            (3, 256 + 1)):
+        rewritten("%d states, initial %d" % (states, initial), record(1, (states, initial)) + end,
+                  pack(0, 12) if 1 <= states <= 32 and initial < states else pack(4, 0))
+    good = (0, 7, 8, 2, 3, 4, 5)
+    for field, values in ((FROM, (2, 3, 256, 65535)), (INPUT, (0, 255, 256, 65535)), (OUTPUT, (0, 255, 256, 65535)),
+                          (TO, (0, 2, 3, 256, 65535)), (U, (0, 1, 3, 4, 5, 257, 65535)),
+                          (V, (0, 2, 3, 4, 4095, 4096, 65535)), (D, (0, 1, 240, 241, 257, 65535))):
+        for value in values:
+            row = good[:field] + (value,) + good[field + 1:]
+            rewritten("transition with number %d = %d" % (field + 1, value), head + record(2, row) + end)
+    for field in range(7):
+        row = good[:field] + (good[field] - (field == FROM and -1 or field == TO and 1 or field == U and 1 or -1),) + \
+            good[field + 1:]
+        rewritten("two transitions that differ only in number %d" % (field + 1), head + middle + record(2, row) + end,
+                  pack(0, 48))
+    rewritten("a repeated transition: 5", head + middle + middle + end, pack(5, 26))
+    rewritten("a transition repeated later: 5",
+              head + middle + record(2, (0, 7, 8, 2, 3, 4, 6)) + middle + end, pack(5, 44))
+    rewritten("a repeated transition, then one out of range: 5",
+              head + middle + middle + record(2, (0, 7, 8, 2, 4, 4, 5)) + end, pack(5, 26))
+    many = [(i % 32, i // 32, 5, (i * 7 + 1) % 32, 300 + i, 301 + i, 240) for i in range(256)]
+    full = write_file(Table(32, 0, many))
+    rewritten("256 transitions", full, pack(0, 4620))
+    judged("256 transitions: strict", Table(32, 0, many), strict)
+    for name, row, number in (("a 257th transition: 3", (0, 99, 5, 1, 1, 2, 3), 3),
+                              ("a 257th transition out of range: 3", (0, 99, 5, 1, 2, 2, 3), 3),
+                              ("a 257th transition that repeats: 3", many[9], 3)):
+        longer = full[:-4] + record(2, row)
+        rewritten(name, longer + end, pack(number, 4616))
+        rewritten(name + " (no end)", longer, pack(number, 4616))
+        rewritten(name[:-1] + "1, being cut", longer[:-1], pack(1, 4616))
+        add(name + " (judge)", JUDGE, longer + end, rng.randbytes(540), rng.randbytes(2160), pinned=pack(number, 4616))
+    rewritten("256 transitions, no end: 1", full[:-4], pack(1, 4616))
+    rewritten("256 transitions and a byte: 2", full + b"\0", pack(2, 4620))
+    rewritten("256 transitions and 70,000 bytes: 2", full + bytes(70000), pack(2, 4620))
+
+    # --- room
+    for size in (0, 1, 65, 66, 67):
+        add("rewriting 66 bytes into %d" % size, REWRITE, file, rng.randbytes(size),
+            pinned=pack(0, 66) if size > 65 else pack(8))
+    for size in (4619, 4620, 4621):
+        add("rewriting 4,620 bytes into %d" % size, REWRITE, full, rng.randbytes(size),
+            pinned=pack(0, 4620) if size > 4619 else pack(8))
+    split_table = write_file(Table(1, 0, [(0, 0, 1, 0, 1, 4, 9), (0, 0, 2, 0, 3, 5, 9)]))
+    for what, data in (("strict", write_file(one)), ("turning", file), ("split", split_table),
+                       ("long", write_file(long_loop))):
+        for trace, stamps in ((0, 0), (540, 0), (0, 2160), (538, 2160), (539, 2160), (540, 2156), (540, 2159),
+                              (539, 2159), (540, 2160), (541, 2163), (600, 3000), (540, 2161)):
+            add("%s table with %d and %d bytes of room" % (what, trace, stamps), JUDGE, data, rng.randbytes(trace),
+                rng.randbytes(stamps), pinned=None if trace >= 540 and stamps >= 2160 else pack(8))
+    for what, table, trace in (("steady", one, (0, 0, 0)), ("turning", whole, (0, 1, 2))):
+        for size in (0, 4, 12, 20, 21, 22, 23, 24, 25, 27, 28, 31):
+            add("%s trace of 3 steps with %d bytes of room" % (what, size), JUDGE_TRACE, write_file(table), u16(*trace),
+                rng.randbytes(size),
+                pinned=pack(8) if size < 24 else steady if what == "steady" else pack(TURNING, 1, 3))
+    for order, due in ((6, 12), (5, 12), (4, 12), (6, 11), (6, 8), (0, 12), (6, 0), (0, 0), (7, 15), (8, 16), (9, 13)):
+        add("replay of 3 steps with %d and %d bytes of room" % (order, due), REPLAY, file, u16(0, 1, 2),
+            u32(2560, 6912, 10496), rng.randbytes(order), rng.randbytes(due),
+            pinned=pack(0 if order > 5 and due > 11 else 8))
+
+    # --- traces and stamps that are handed in
+    for n in (1, 511, 512, 513, 1024):
+        for call in (JUDGE_TRACE, REPLAY):
+            stamps = [300 * (j + 1) for j in range(n)]
+            bufs = [rng.randbytes(8 * n)]
+            if call == REPLAY:
+                bufs = [u32(*stamps), rng.randbytes(2 * n), rng.randbytes(4 * n)]
+            add("a trace of %d steps (%s)" % (n, CALLS[call]), call, write_file(one), u16(*[0] * n), *bufs,
+                pinned=pack(0) if n <= 512 else pack(6))
+    for n in (65536, 65537, 65536 + 3):
+        add("a trace of %d steps" % n, JUDGE_TRACE, write_file(one), bytes(2 * n), rng.randbytes(8 * 512),
+            pinned=pack(6))
+        add("a trace of %d steps (replay)" % n, REPLAY, write_file(one), bytes(2 * n), u32(300, 600, 900),
+            rng.randbytes(2000), rng.randbytes(4000), pinned=pack(6))
+        add("%d stamps" % n, REPLAY, write_file(one), u16(0, 0, 0), bytes(4 * n), rng.randbytes(6), rng.randbytes(12),
+            pinned=pack(7))
+    for name, trace in (("empty", b""), ("of one byte", b"\0"), ("of 5 bytes", u16(0, 1, 2)[:5]),
+                        ("of 7 bytes", u16(0, 1, 2) + b"\0"),
+                        ("naming transition 3 of 3", u16(0, 1, 3)), ("naming transition 256", u16(256)),
+                        ("naming transition 65535", u16(0, 65535)), ("that is not joined", u16(0, 2)),
+                        ("that repeats a step that can't be", u16(0, 0)), ("backwards", u16(2, 1, 0))):
+        add("a trace %s: 6" % name, JUDGE_TRACE, file, trace, rng.randbytes(100), pinned=pack(6))
+        add("a trace %s, no room: 6" % name, JUDGE_TRACE, file, trace, b"", pinned=pack(6))
+        add("a trace %s: 6 (replay)" % name, REPLAY, file, trace, u32(2560, 6912, 10496), rng.randbytes(6),
+            rng.randbytes(12), pinned=pack(6))
+        add("a trace %s, no stamps, no room: 6 (replay)" % name, REPLAY, file, trace, b"", b"", b"", pinned=pack(6))
+    traced("a trace from a state that can't be reached", Table(3, 2, dead_end), (0, 1), pack(TURNING, 1, 2))
+    empty = write_file(Table(1, 0, []))
+    add("a trace in a table without transitions: 6", JUDGE_TRACE, empty, u16(0), rng.randbytes(8), pinned=pack(6))
+    for size in (0, 1, 4, 8, 10, 11, 13, 14, 15, 16, 24):
+        stamps = rng.randbytes(size)
+        add("3 steps and %d bytes of stamps: 7" % size, REPLAY, file, u16(0, 1, 2), stamps, rng.randbytes(6),
+            rng.randbytes(12), pinned=pack(7))
+        add("3 steps, %d bytes of stamps, no room: 7" % size, REPLAY, file, u16(0, 1, 2), stamps, b"", b"",
+            pinned=pack(7))
+    add("gaps outside and no room: 8", REPLAY, file, u16(0, 1, 2), u32(1, 2, 3), rng.randbytes(4), rng.randbytes(12),
+        pinned=pack(8))
+    add("a bad file and nothing else right: the file's number", REPLAY, file[:60], b"\0", b"\0", b"", b"",
+        pinned=pack(1, 44))
+
+    # --- gaps, the wrap, ties
+    for gap, refused in ((256, 1), (257, 0), (300, 0), (512, 0), (513, 1), (0, 1), (TURN - 1, 1)):
+        for start in (0, TURN - 1, TURN - 256, TURN - 257, TURN - 300, TURN - 512, TURN - 513, 2147483647):
+            replayed("guard (1,2], gap %d from start %d" % (gap, start), one, (0,), ((start + gap) % TURN,), start,
+                     pack(9, 1) if refused else pack(0))
+    replayed("stamps that wrap between steps", whole, (0, 1, 2), ((3840 - 6000) % TURN, 8192 - 6000, 11008 - 6000),
+             (-6000) % TURN, exactly(pack(0), order=u16(3, 1, 2), due=u32(13568, 14080, 15872)))
+    replayed("the counter wraps between due times", whole, (0, 1, 2),
+             ((2560 - 13000) % TURN, (6912 - 13000) % TURN, (10496 - 13000) % TURN), (-13000) % TURN,
+             exactly(pack(0), order=u16(1, 3, 2), due=u32(12800, 13056, 14592)))
+    for j in range(3):
+        stamps = [3840, 8192, 11008]
+        stamps[j] = stamps[j - 1] if j else 0
+        replayed("the first gap outside is at step %d" % (j + 1), whole, (0, 1, 2), stamps, pinned=pack(9, j + 1))
+    tie = Table(3, 0, [(0, 0, 1, 1, 1, 2, 10), (1, 0, 1, 2, 3, 5, 6)])
+    replayed("equal due times: the earlier step first", tie, (0, 1), (512, 512 + 1024),
+             pinned=exactly(pack(0), order=u16(1, 2), due=u32(3072, 3072)))
+    replayed("a due time earlier by 1/256", tie, (0, 1), (512, 512 + 1023),
+             pinned=exactly(pack(0), order=u16(2, 1), due=u32(3071, 3072)))
+    replayed("a due time later by 1/256", tie, (0, 1), (512, 512 + 1025),
+             pinned=exactly(pack(0), order=u16(1, 2), due=u32(3072, 3073)))
+    ramp = Table(1, 0, [(0, i, i, 0, 1, 2, 3 * i + 1) for i in range(80)])
+    down = [79 - j % 80 for j in range(512)]
+    replayed("512 steps with many overtakings", ramp, down, stamps_of([257 + 255 * (j % 2) for j in range(512)]))
+    same = Table(1, 0, [(0, i, 5, 0, 1, 2, 200 - i) for i in range(60)])
+    replayed("60 steps that are all due at once", same, list(range(60)), stamps_of([512] + [257] * 59))
+    replayed("the due times of 60 steps are equal", Table(1, 0, [(0, i, 5, 0, 1, 2, 239 - 2 * i) for i in range(60)]),
+             list(range(60)), stamps_of([512] * 60),
+             pinned=exactly(pack(0), order=u16(*range(1, 61)), due=u32(*[512 + 239 * 256] * 60)))
+    slow = Table(1, 0, [(0, 0, 0, 0, 4094, 4095, 240)])
+    replayed("the greatest due time, 536,801,280", slow, [0] * 512, stamps_of([4095 * 256] * 512, 77), 77,
+             lambda answer, after: None if u32s(after[4], 512)[-1] == 536801280 else "it is another")
+    traced("a steady trace of 512 slow steps", slow, [0] * 512, steady)
+
+    # --- trace verdicts
+    chain = Table(5, 0, [(0, 0, 1, 1, 1, 2, 1), (1, 0, 1, 2, 1, 2, 20), (2, 0, 1, 3, 3, 30, 10),
+                         (3, 0, 1, 4, 2, 9, 10)])
+    traced("the early word takes v before k and after m", chain, (0, 1, 2, 3),
+           exactly(pack(TURNING, 2, 3), stamps=u32(512, 1024, 8704, 11008, 512, 1024, 1793, 4097)))
+    traced("least k, then least m", Table(1, 0, [(0, 0, 1, 0, 1, 9, 9), (0, 1, 1, 0, 1, 9, 5), (0, 2, 1, 0, 1, 9, 2)]),
+           (2, 0, 1, 2), pack(TURNING, 2, 3))
+    for name, guard, ds, turns in (("D = U", (2, 3), (9, 7, 5), 0), ("D = U + 1", (2, 3), (10, 8, 5), 1),
+                                   ("D = V", (3, 4), (12, 12, 5), 1), ("D = V + 1", (3, 4), (13, 13, 5), 0)):
+        three = Table(1, 0, [(0, 0, 1, 0, 2, 3, ds[0]), (0, 1, 1, 0, 2, 3, ds[1]), (0, 2, 1, 0, *guard, ds[2])])
+        traced("%s over two steps" % name, three, (0, 1, 2), pack(TURNING, 1, 3) if turns else steady)
+    long_pair = Table(1, 0, [(0, 0, 1, 0, 1, 2, 240), (0, 1, 1, 0, 1, 2, 1)])
+    for n in (1, 117, 118, 119, 236, 237, 238, 239):
+        between = n - 1
+        traced("D = 239 over %d steps of (1,2]" % n, Table(1, 0, [(0, 0, 1, 0, 1, 2, 240), (0, 1, 1, 0, 1, 2, 1)]),
+               [0] * 1 + [0] * between + [1])
+    traced("k is step 1, m is step 120 at the least", long_pair, [0] * 120 + [1], pack(TURNING, 1, 121))
+    traced("V = 238 is too little for D = 239", long_pair, [0] * 119 + [1], steady)
+    traced("the pair stands at the end of 512 steps", long_pair, [1] * 391 + [0] * 120 + [1], pack(TURNING, 392, 512))
+    traced("like outputs don't excuse turning", Table(2, 0, [(0, 0, 9, 1, 1, 2, 9), (1, 0, 9, 1, 1, 7, 2)]), (0, 1),
+           pack(TURNING, 1, 2))
+
+    # --- table verdicts
+    for guard, verdict in (((238, 239), pack(TURNING, 1, 2, 2)), ((239, 240), strict), ((237, 238), strict),
+                           ((1, 239), pack(TURNING, 1, 2, 2)), ((238, 4095), pack(TURNING, 1, 2, 2))):
+        judged("D = 239, guard (%d,%d]" % guard, Table(3, 0, [(0, 0, 1, 1, 1, 2, 240), (1, 0, 2, 2, *guard, 1)]),
+               verdict)
+    way = [(s, 0, 0, s + 1, 1, 2, 1) for s in range(31)]
+    judged("a witness at the end of 31 steps", Table(32, 0, way + [(31, 0, 1, 0, 1, 2, 240)]))
+    judged("a long witness after 31 steps", Table(32, 0, way + [(31, 0, 1, 31, 1, 2, 240), (31, 1, 1, 0, 1, 2, 1)]))
+    late_way = [(s, 0, 0, s + 1, 1, 2, 240) for s in range(31)]
+    judged("270 steps may be shown",
+           Table(32, 0, [(s, 0, 0, s + 1, 1, 2, 1) for s in range(31)] +
+                 [(31, 0, 1, 30, 1, 2, 240), (30, 1, 1, 30, 1, 2, 240), (30, 2, 1, 0, 1, 2, 1)]))
+    judged("every step of a long way has d = 240",
+           Table(32, 0, late_way + [(31, 0, 1, 31, 1, 2, 240), (31, 1, 1, 0, 1, 2, 1)]))
+    judged("a split after 31 steps", Table(32, 0, way + [(31, 0, 1, 0, 1, 3, 1), (31, 0, 2, 31, 2, 3, 1)]),
+           exactly(pack(SPLIT, 31, 32, 32), trace=u16(*range(32)), stamps=u32(*stamps_of([512] * 31 + [768]))))
+    judged("the second transition of a split has the lesser v",
+           Table(2, 0, [(0, 0, 1, 0, 1, 9, 1), (0, 0, 2, 1, 3, 5, 1)]),
+           exactly(pack(SPLIT, 0, 1, 1), trace=u16(0), stamps=u32(5 * 256)))
+    judged("least I, then least J", Table(2, 0, [(1, 0, 1, 1, 1, 9, 1), (0, 0, 1, 0, 1, 3, 1), (0, 0, 1, 0, 5, 9, 1),
+                                                 (0, 0, 1, 0, 2, 6, 1), (0, 0, 1, 0, 1, 9, 1)]), pack(SPLIT, 1, 3, 1))
+    judged("a split that can't be reached", Table(2, 0, [(1, 0, 1, 1, 1, 9, 1), (1, 0, 2, 1, 1, 9, 1)]), strict)
+    judged("turning that can't be reached", Table(3, 2, dead_end), strict)
+    judged("k leaves a state that can't be reached", Table(3, 1, [(0, 0, 1, 1, 1, 2, 9), (1, 0, 1, 1, 1, 9, 5)]),
+           strict)
+    judged("like outputs and arrivals don't excuse a split",
+           Table(1, 0, [(0, 0, 1, 0, 1, 4, 9), (0, 0, 1, 0, 3, 5, 9)]), pack(SPLIT, 0, 1, 1))
+    judged("transitions that differ in output alone split", Table(1, 0, [(0, 0, 1, 0, 1, 4, 9), (0, 0, 2, 0, 1, 4, 9)]),
+           pack(SPLIT, 0, 1, 1))
+    judged("split and turning: split",
+           Table(2, 0, [(0, 0, 1, 1, 1, 2, 9), (1, 1, 2, 0, 1, 20, 1), (1, 2, 1, 0, 1, 4, 9), (1, 2, 1, 0, 3, 5, 9)]),
+           pack(SPLIT, 2, 3, 2))
+    judged("unlike inputs don't split", Table(1, 0, [(0, 0, 1, 0, 1, 4, 9), (0, 1, 1, 0, 1, 4, 9)]), strict)
+    judged("like inputs in two states don't split", Table(2, 0, [(0, 0, 1, 1, 1, 4, 9), (1, 0, 1, 0, 1, 4, 9)]), strict)
+    judged("a loop that turns with itself", Table(1, 0, [(0, 0, 1, 0, 1, 2, 9), (0, 1, 1, 0, 2, 9, 4)]))
+    judged("only the walk with greater U turns",
+           Table(4, 0, [(0, 0, 1, 1, 1, 2, 30), (1, 0, 1, 2, 1, 2, 30), (1, 1, 1, 2, 9, 20, 30),
+                        (2, 0, 1, 3, 1, 2, 15)]),
+           exactly(pack(TURNING, 1, 3, 3), trace=u16(0, 2, 3)))
+    judged("only the walk with lesser V turns",
+           Table(4, 0, [(0, 0, 1, 1, 1, 2, 12), (1, 0, 1, 2, 1, 9, 12), (1, 1, 1, 2, 12, 30, 12),
+                        (2, 0, 1, 3, 1, 2, 2)]),
+           exactly(pack(TURNING, 1, 3, 3), trace=u16(0, 1, 3)))
+    judged("only the middle walk of three turns",
+           Table(4, 0, [(0, 0, 1, 1, 1, 2, 30), (1, 0, 1, 2, 1, 2, 30), (1, 1, 1, 2, 9, 20, 30),
+                        (1, 2, 1, 2, 25, 60, 30), (2, 0, 1, 3, 1, 2, 15)]),
+           exactly(pack(TURNING, 1, 3, 3), trace=u16(0, 2, 4)))
+    judged("the lowest number that turns is not the first on the way",
+           Table(4, 0, [(2, 0, 1, 3, 3, 4, 5), (1, 0, 1, 2, 1, 2, 9), (0, 0, 1, 1, 1, 2, 20)]),
+           exactly(pack(TURNING, 2, 3, 3), trace=u16(2, 1, 0)))
+    judged("turning, though steady on whole ticks",
+           Table(4, 0, [(0, 0, 1, 1, 1, 3, 9), (1, 0, 1, 2, 1, 3, 8), (2, 0, 1, 3, 1, 3, 6)]),
+           exactly(pack(TURNING, 1, 3, 3), trace=u16(0, 1, 2)))
+    judged("always overtaken is not turning", Table(3, 0, [(0, 0, 1, 1, 1, 2, 240), (1, 0, 1, 2, 1, 2, 1)]), strict)
+    judged("the greatest sums of v",
+           Table(2, 0, [(0, 0, 1, 1, 1, 4095, 240), (1, 0, 1, 1, 1, 4095, 240), (1, 1, 1, 0, 1, 4095, 1)]))
+
+    # --- lengths that don't fit 32 bits
+    big = 1 << 32
+    add("a file of 2^32 + 66 bytes", REWRITE, Buf(file, big + 66), rng.randbytes(100), pinned=pack(2, 66))
+    add("a file of 2^32 + 30 bytes", JUDGE, Buf(file[:30], big + 30), rng.randbytes(540), rng.randbytes(2160))
+    three, stamps = u16(0, 1, 2), u32(2560, 6912, 10496)
+    for text, more in (("2^32", big), ("2^33", 2 * big)):
+        add("a trace of %s + 6 bytes" % text, JUDGE_TRACE, file, Buf(three, more + 6), rng.randbytes(24),
+            pinned=pack(6))
+    for text, more in (("2^32", big), ("2^34", 4 * big)):
+        add("stamps of %s + 12 bytes" % text, REPLAY, file, three, Buf(stamps, more + 12), rng.randbytes(6),
+            rng.randbytes(12), pinned=pack(7))
+    add("rooms of 2^32 + 1 bytes", JUDGE, file, Buf(rng.randbytes(540), big + 1), Buf(rng.randbytes(2160), big + 1),
+        pinned=pack(TURNING, 1, 3, 3))
+    add("a room of 2^32 + 1 bytes for a trace verdict", JUDGE_TRACE, file, three, Buf(rng.randbytes(24), big + 1),
+        pinned=pack(TURNING, 1, 3))
+    add("a room of 2^32 + 1 bytes for a file", REWRITE, file, Buf(rng.randbytes(66), big + 1), pinned=pack(0, 66))
+    add("rooms of 2^32 bytes for replay", REPLAY, file, three, stamps, Buf(rng.randbytes(6), big),
+        Buf(rng.randbytes(12), big), pinned=pack(0))
+    # what document 01 has and what has a name first
+    return sorted(cases, key=lambda c: c.name.startswith(("whole case cut", "whole case with bit")))
+
+
+# ---------------------------------------------------------------------------------------------------------------------
+
+def describe(case):
+    lines = ["  call %s, start %d" % (CALLS[case.call], case.start)]
+    for name, b in zip(BUFFERS[case.call], case.bufs):
+        text = b.data.hex()
+        lines.append("  %s: %d bytes %s" % (name, b.length, text if len(text) <= 1400 else text[:1400] + "..."))
+    number, table = read_file(case.bufs[0].data, case.bufs[0].length)
+    if not number:
+        lines.append("  table: %d states, initial %d, transitions (from, input, output, to, u, v, d)" %
+                     (table.states, table.initial))
+        for i, row in enumerate(table.rows[:40]):
+            lines.append("    %d: %s" % (i, row))
+        if len(table.rows) > 40:
+            lines.append("    ... %d in all" % len(table.rows))
+    return "\n".join(lines)
+
+
+def main():
+    parser = argparse.ArgumentParser(description="Tries the four calls against what document 01 says.")
+    parser.add_argument("driver", help="the C driver, linked with what is to be tried")
+    parser.add_argument("--cases", type=int, default=10000, help="number of random cases (default 10000)")
+    parser.add_argument("--seed", type=int, default=1, help="seed of the random cases (default 1)")
+    parser.add_argument("--only", help="try one case: the number of a random one, or the name of a fixed one")
+    parser.add_argument("--first", action="store_true", help="stop at the first failure")
+    parser.add_argument("--no-fixed", action="store_true", help="leave out the fixed cases")
+    parser.add_argument("--no-random", action="store_true", help="leave out the random cases")
+    parser.add_argument("--quiet", action="store_true", help="print no progress")
+    parser.add_argument("--run", default="", help="command that runs the driver, such as an emulator")
+    args = parser.parse_args()
+
+    fixed = [] if args.no_fixed else fixed_cases()
+    numbers = [] if args.no_random else range(args.cases)
+    if args.only is not None:
+        fixed = [c for c in fixed_cases() if c.name == args.only]
+        numbers = [int(args.only)] if args.only.isdigit() else []
+
+    driver = Driver(shlex.split(args.run) + [os.path.abspath(args.driver)])
+    began = told = time.monotonic()
+    passed = failed = skipped = 0
+    tally = {}
+    total = len(fixed) + len(numbers)
+
+    def all_cases():
+        for case in fixed:
+            yield case, random.Random("sandgusset %s" % case.name)
+        for index in numbers:
+            yield random_case(args.seed, index)
+
+    for case, rng in all_cases():
+        wrong = try_case(driver, case, rng)
+        tally.setdefault(case.call, {}).setdefault(case.kind, 0)
+        tally[case.call][case.kind] += 1
+        if wrong is None:
+            passed += 1
+        elif wrong == "skipped":
+            skipped += 1
+            print("skipped, no memory for it: %s" % case.name, flush=True)
+        else:
+            failed += 1
+            if failed <= 5:
+                print("FAILED: %s | %s" % (case.name, wrong))
+                if not args.quiet:
+                    print(describe(case))
+                    again = case.name.split()[1] if case.name.startswith("random ") else shlex.quote(case.name)
+                    print("  again with: --seed %d --only %s" % (args.seed, again), flush=True)
+            if args.first:
+                break
+        if not args.quiet and time.monotonic() - told > 5:
+            told = time.monotonic()
+            print("%d of %d cases, %d failed, %.0f s" % (passed + failed + skipped, total, failed, told - began),
+                  flush=True)
+    driver.close()
+    if not args.quiet:
+        for call in sorted(tally):
+            print("%s: %s" % (CALLS[call], ", ".join("%s %d" % item for item in sorted(tally[call].items()))))
+        print("fixed cases: %d; random cases: %d, seed %d; %.1f s" %
+              (len(fixed), len(numbers), args.seed, time.monotonic() - began))
+    print("%d passed, %d failed" % (passed, failed))
+    sys.exit(1 if failed or not passed else 0)
+
+
+if __name__ == "__main__":
+    main()
