@@ -1,8 +1,8 @@
 -- Replay on bytes by the call on values.
-use mathlib.Core.Path.{_≡_, refl, sym, ap, _∙_}
+use mathlib.Core.Path.{_≡_, refl, sym, _∙_}
 use mathlib.Core.Logic.{inl, inr, ⊎-elim}
-use mathlib.Core.List.{List, [], _∷_, _++_, map}
-use Prim.Native.Nat.{ℕ, _*_, _%_, _/_, min, _≤_}
+use mathlib.Core.List.{List, _++_, map}
+use Prim.Native.Nat.{ℕ, _*_, _/_, min, _≤_}
 use native.Mathlib.Omega.{arith}
 use lib.ListN.{length, take, drop, length-map, length-append, length-take}
 use lib.Seq.{take-append-le}
@@ -17,12 +17,13 @@ use Rattle.table.specs.Check.{checkOf}
 use Rattle.table.specs.Tests.{Test, Passes, Fails}
 use Rattle.replay.specs.declared.Replayed.{Replayed}
 use Rattle.replay.specs.declared.Replayed.the-variants.{Played, Refused}
-use Rattle.replay.specs.Play.{replayTests, RefusesReplay, Plays, ReplayOutcome}
+use Rattle.replay.specs.Play.{replayTests, RefusesReplay, Plays}
 use Rattle.replay.proofs.ReplayLaws.{otherTests, passed-handed, passed-stamped}
 use Rattle.replay.proofs.OutcomeLaws.{plays-length}
 use Rattle.on_bytes.specs.Places.{handedOn, Decoded}
-use Rattle.on_bytes.specs.Replays.{bytesTests, Cause, PlaysBytes, MachineOutcome, wroteBack, Called}
-use Rattle.on_bytes.proofs.PlaceLaws.{length-wholes, handed-whole, handed-count, count-handed, trace-whole, whole-trace, trace-count, back}
+use Rattle.on_bytes.specs.Replays.{bytesTests, Cause, PlaysBytes, ReplayOnMachine}
+use Rattle.on_bytes.specs.ValueCall.{wroteBack, Called}
+use Rattle.on_bytes.proofs.PlaceLaws.{handed-whole, handed-count, count-handed, trace-whole, whole-trace, trace-count, back}
 use Rattle.on_bytes.proofs.AgreeLaws.{Agree, agree-passes, agree-fails, after-passes, after-fails}
 
 -- a replay that is played fills the places of its steps
@@ -34,13 +35,13 @@ plays-long t trace start stamps o₀ d₀ o d p = (filled (λ x. x .step) o o₀
     filled g b b₀ e = rw e (simp (length-append, length-map) (omega (arith, plays-length t trace start stamps o₀ d₀ o d p)))
 
 -- the call on values, made with the first places of two longer lists
-module _ (t : Table) (trace : List ℕ) (start : ℕ) (stamps order₀ due₀ firsts times : List ℕ) (room late : ℕ)
+module _ (t : Table) (trace : List ℕ) (start : ℕ) (stamps order₀ due₀ ranked times : List ℕ) (room late : ℕ)
     (order-room : room ≡ min (length order₀ / 2) 512) (due-room : late ≡ min (length due₀ / 4) 512)
-    (order-long : length firsts ≡ 512) (due-long : length times ≡ 512) where
-  pub called-refused : (r : Refusal) {o d : List ℕ} → RefusesReplay t trace start stamps (take room firsts) (take late times) r o d
+    (order-long : length ranked ≡ 512) (due-long : length times ≡ 512) where
+  pub called-refused : (r : Refusal) {o d : List ℕ} → RefusesReplay t trace start stamps (take room ranked) (take late times) r o d
       → Called t trace start stamps order₀ due₀ (Refused r) order₀ due₀
   called-refused r {o} {d} x = record {
-    o₀ = take room firsts;
+    o₀ = take room ranked;
     d₀ = take late times;
     o = o;
     d = d;
@@ -51,13 +52,13 @@ module _ (t : Table) (trace : List ℕ) (start : ℕ) (stamps order₀ due₀ fi
     dues = refl;
   }
 
-  pub called-played : (o d more rest order due : List ℕ) → Plays t trace start stamps (take room firsts) (take late times) o d
+  pub called-played : (o d more rest order due : List ℕ) → Plays t trace start stamps (take room ranked) (take late times) o d
       → order ≡ placed order₀ 0 (bytes 2 (take (length trace) (o ++ more))) → due ≡ placed due₀ 0 (bytes 4 (take (length trace) (d ++ rest)))
       → Called t trace start stamps order₀ due₀ Played order due
   called-played o d more rest order due x e f =
-      let l = plays-long t trace start stamps (take room firsts) (take late times) o d x in
+      let l = plays-long t trace start stamps (take room ranked) (take late times) o d x in
       record {
-        o₀ = take room firsts;
+        o₀ = take room ranked;
         d₀ = take late times;
         o = o;
         d = d;
@@ -127,24 +128,29 @@ module _ (t : Table) (sound : checkOf t ≡ Sound) (trace : List ℕ) (start : �
   plays : {o d order due : List ℕ} → Plays t steps start marks o₀ d₀ o d → order ≡ wroteBack 2 Played (length steps) o order₀
       → due ≡ wroteBack 4 Played (length steps) d due₀ → PlaysBytes (machineOf t) trace start stamps order₀ due₀ order due
   plays {o} {d} x e f =
-      let n : length steps ≡ length trace / 2 = count (x .tested) in
       let few = passes (x .tested) .1 .1 .0 in
-      let long : length (x .responses) ≡ length trace / 2 = plays-length t steps start marks o₀ d₀ o d x ∙ n in
       record {
         tested = passes (x .tested);
         activates = rw (steps-whole (x .tested), marks-whole (x .tested)) at (x .activates);
         responses = x .responses;
         converts = rw (steps-whole (x .tested), marks-whole (x .tested)) at (x .converts);
-        orders = e ∙ rw (n, x .orders)
-            (back 2 (length trace / 2) (map (λ x. x .step) (x .responses)) (drop (length steps) o₀) order₀ (length-map (x .responses) (λ x. x .step) ∙ long) (omega arith));
-        dues = f ∙ rw (n, x .dues)
-            (back 4 (length trace / 2) (map (λ x. x .time) (x .responses)) (drop (length steps) d₀) due₀ (length-map (x .responses) (λ x. x .time) ∙ long) (omega arith));
+        orders = e ∙ wrote 2 (λ y. y .step) o o₀ order₀ (omega arith) (x .orders);
+        dues = f ∙ wrote 4 (λ y. y .time) d d₀ due₀ (omega arith) (x .dues);
       }
+    where
+      n : length steps ≡ length trace / 2
+      n = count (x .tested)
+
+      wrote : (w : ℕ) (g : Response → ℕ) (b b₀ l : List ℕ) → length trace / 2 * w ≤ length l → b ≡ map g (x .responses) ++ drop (length steps) b₀
+          → wroteBack w Played (length steps) b l ≡ bytes w (map g (x .responses)) ++ drop (w * (length trace / 2)) l
+      wrote w g b b₀ l h q =
+          let long : length (map g (x .responses)) ≡ length trace / 2 = length-map (x .responses) g ∙ plays-length t steps start marks o₀ d₀ o d x ∙ n in
+          rw (n, q) (back w (length trace / 2) (map g (x .responses)) (drop (length steps) b₀) l long h)
 
 -- what the call on values answers is what is to be answered on bytes
 module _ (t : Table) (sound : checkOf t ≡ Sound) (trace : List ℕ) (start : ℕ) (stamps order₀ due₀ : List ℕ) where
   answered : (answer : Replayed) (order due : List ℕ) → Called t (handedOn 2 trace) start (handedOn 4 stamps) order₀ due₀ answer order due
-      → MachineOutcome (machineOf t) trace start stamps order₀ due₀ answer order due
+      → ReplayOnMachine (machineOf t) trace start stamps order₀ due₀ answer order due
   answered Played order due x =
       plays t sound trace start stamps order₀ due₀ (x .o₀) (x .d₀) (x .order-room) (x .due-room) (x .outcome) (x .orders) (x .dues)
   answered (Refused r) order due x = record {
@@ -155,5 +161,5 @@ module _ (t : Table) (sound : checkOf t ≡ Sound) (trace : List ℕ) (start : �
 
   pub on-bytes : {n k : ℕ} {steps marks order due : List ℕ} {answer : Replayed} → Decoded 2 trace n steps → Decoded 4 stamps k marks
       → Called t (take n steps) start (take k marks) order₀ due₀ answer order due
-      → MachineOutcome (machineOf t) trace start stamps order₀ due₀ answer order due
+      → ReplayOnMachine (machineOf t) trace start stamps order₀ due₀ answer order due
   on-bytes {order = order} {due = due} {answer = answer} p q x = answered answer order due (rw (p .is, q .is) at x)

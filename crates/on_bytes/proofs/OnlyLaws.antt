@@ -2,7 +2,7 @@
 use mathlib.Core.Path.{_≡_, refl, sym, ap, _∙_}
 use mathlib.Core.Logic.{dite}
 use mathlib.Core.List.{List}
-use Prim.Native.Nat.{ℕ, _/_, _≤_, _<_}
+use Prim.Native.Nat.{ℕ, _≤_}
 use native.Mathlib.Decide.{decLt}
 use native.Mathlib.Omega.{arith}
 use lib.ListN.{length}
@@ -18,8 +18,8 @@ use Rattle.replay.specs.declared.Replayed.{Replayed}
 use Rattle.replay.specs.declared.Replayed.the-variants.{Played, Refused}
 use Rattle.replay.proofs.OutcomeLaws.{cause-only, no-cause}
 use Rattle.on_bytes.specs.OnFile.{onFile}
-use Rattle.on_bytes.specs.Replays.{bytesTests, pathIn, wordIn, Cause, PlaysBytes, MachineOutcome, BytesOutcome}
-use Rattle.on_bytes.specs.Rewrites.{Rewritten, RewriteOutcome}
+use Rattle.on_bytes.specs.Replays.{bytesTests, pathIn, wordIn, Cause, PlaysBytes, ReplayOnMachine, ReplayBytesOutcome}
+use Rattle.on_bytes.specs.Rewrites.{RewriteBytesOutcome}
 use Rattle.on_bytes.proofs.PlaceLaws.{length-wholes}
 
 -- two facts of one file: by its refusal or by its machine
@@ -28,8 +28,9 @@ pub on-file : (s : Scan) (P P' : Refusal → Type 0) (Q Q' : Machine → Type 0)
 on-file (machine m) P P' Q Q' f g a b = g m a b
 on-file (stopped r) P P' Q Q' f g a b = f r a b
 
-pub rewrite-only : (file out₀ : List ℕ) (a b : Written) (x y : List ℕ) → RewriteOutcome file out₀ a x → RewriteOutcome file out₀ b y → (a ≡ b) × (x ≡ y)
-rewrite-only file out₀ a b x y =
+pub rewrite-bytes-only : (file out₀ : List ℕ) (a b : Written) (x y : List ℕ) → RewriteBytesOutcome file out₀ a x → RewriteBytesOutcome file out₀ b y
+    → (a ≡ b) × (x ≡ y)
+rewrite-bytes-only file out₀ a b x y =
     on-file (readFile file) _ _ _ _ (λ r p q. (p .0 ∙ sym (q .0), p .1 ∙ sym (q .1)))
     (λ m p q. dite (decLt (length out₀) (length file))
     (λ h. (p .short h .0 ∙ sym (q .short h .0), p .short h .1 ∙ sym (q .short h .1)))
@@ -48,17 +49,18 @@ module _ (trace : List ℕ) (start : ℕ) (stamps order₀ due₀ : List ℕ) wh
         length-wholes 4 stamps ∙ p .tested .1 .0 .1 ∙ sym (length-steps (m .transitions) (wholes 2 trace) ∙ length-wholes 2 trace) in
         no-cause tests (pathIn m trace) start (wholes 4 stamps) r (p .tested) e (p .activates) c
 
-    machine-only : (r s : Replayed) (o d o' d' : List ℕ) → MachineOutcome m trace start stamps order₀ due₀ r o d
-        → MachineOutcome m trace start stamps order₀ due₀ s o' d' → (r ≡ s) × (o ≡ o') × (d ≡ d')
+    machine-only : (r s : Replayed) (o d o' d' : List ℕ) → ReplayOnMachine m trace start stamps order₀ due₀ r o d
+        → ReplayOnMachine m trace start stamps order₀ due₀ s o' d' → (r ≡ s) × (o ≡ o') × (d ≡ d')
     machine-only Played Played o d o' d' a b =
         let e : a .responses ≡ b .responses = conversion-only (pathIn m trace) (wordIn m trace start stamps) (a .converts) (b .converts) in
         (refl, a .orders ∙ rw e (sym (b .orders)), a .dues ∙ rw e (sym (b .dues)))
     machine-only Played (Refused s) o d o' d' a b = absurd (not-both s (b .why) a)
     machine-only (Refused r) Played o d o' d' a b = absurd (not-both r (a .why) b)
     machine-only (Refused r) (Refused s) o d o' d' a b =
-        (ap Refused (cause-only tests (pathIn m trace) start (wholes 4 stamps) r s (a .why) (b .why)), a .order-kept ∙ sym (b .order-kept), a .due-kept ∙ sym (b .due-kept))
+        let e : r ≡ s = cause-only tests (pathIn m trace) start (wholes 4 stamps) r s (a .why) (b .why) in
+        (ap Refused e, a .order-kept ∙ sym (b .order-kept), a .due-kept ∙ sym (b .due-kept))
 
-  pub bytes-only : (file : List ℕ) (r s : Replayed) (o d o' d' : List ℕ) → BytesOutcome file trace start stamps order₀ due₀ r o d
-      → BytesOutcome file trace start stamps order₀ due₀ s o' d' → (r ≡ s) × (o ≡ o') × (d ≡ d')
-  bytes-only file r s o d o' d' =
+  pub replay-bytes-only : (file : List ℕ) (r s : Replayed) (o d o' d' : List ℕ) → ReplayBytesOutcome file trace start stamps order₀ due₀ r o d
+      → ReplayBytesOutcome file trace start stamps order₀ due₀ s o' d' → (r ≡ s) × (o ≡ o') × (d ≡ d')
+  replay-bytes-only file r s o d o' d' =
       on-file (readFile file) _ _ _ _ (λ x p q. (p .0 ∙ sym (q .0), p .1 ∙ sym (q .1), p .2 ∙ sym (q .2))) (λ m p q. machine-only m r s o d o' d' p q)

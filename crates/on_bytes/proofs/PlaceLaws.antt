@@ -1,16 +1,16 @@
 -- Lists in bytes, once for every width w.
-use mathlib.Core.Path.{_≡_, refl, sym, ap, _∙_}
+use mathlib.Core.Path.{_≡_, sym, ap, _∙_}
 use mathlib.Core.Logic.{dite}
 use mathlib.Core.List.{List, [], _++_}
 use Prim.Native.Nat.{ℕ, _+_, _*_, _%_, _/_, min, _≤_, _<_}
 use native.Mathlib.Decide.{decLt}
 use native.Mathlib.Omega.{arith}
 use borrow.Author.Tests.{lt-ltb, le-ltb}
-use lib.ListN.{length, take, drop, length-append, length-take, length-drop}
+use lib.ListN.{length, take, drop, length-append, length-drop}
 use lib.Seq.{take-at}
 use Rattle.model.specs.Table.{Transition}
 use Rattle.model.specs.Trace.{Handed}
-use Rattle.wire.specs.Bytes.{bytes, placed, les, wholes, taken}
+use Rattle.wire.specs.Bytes.{bytes, placed, wholes, taken}
 use Rattle.wire.proofs.Bytes.{length-les, length-bytes, placed-fits}
 use Rattle.on_bytes.specs.Places.{handedOn, Decoded}
 

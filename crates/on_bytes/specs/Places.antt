@@ -15,7 +15,7 @@ use Rattle.table.specs.Tests.{Test, unless}
 abbrev pub traceTest : Machine → List ℕ → Test
 traceTest m trace = unless NoTrace ((length trace % 2 ≡ 0) × Handed (m .transitions) (wholes 2 trace))
 
--- what the call on values is handed: nothing where bytes are left over or no trace is so long, since a list that is empty is refused alike
+-- what the call on values is handed: nothing if bytes are left over or the list is longer than any trace, since an empty list gets the same number
 unfoldable pub handedOn : ℕ → List ℕ → List ℕ
 handedOn w b = cond (ltb 0 (length b % w)) [] (cond (ltb 512 (length b / w)) [] (wholes w b))
 

@@ -2,22 +2,21 @@
 use mathlib.Core.Path.{_≡_}
 use mathlib.Core.Logic.{_⊎_}
 use mathlib.Core.List.{List, [], _∷_, _++_, map}
-use Prim.Native.Nat.{ℕ, _*_, _%_, _/_, min, _≤_}
-use lib.ListN.{length, take, drop}
+use Prim.Native.Nat.{ℕ, _*_, _%_, _/_, _≤_}
+use lib.ListN.{length, drop}
 use Rattle.model.specs.Table.{Transition, Machine}
 use Rattle.model.specs.Trace.{steps}
 use Rattle.model.specs.Word.{Word, Activates}
 use Rattle.model.specs.Order.{Response, Conversion}
 use Rattle.model.specs.Stamps.{gapsFrom, wordFrom}
-use Rattle.wire.specs.Bytes.{bytes, placed, wholes}
+use Rattle.wire.specs.Bytes.{bytes, wholes}
 use Rattle.table.specs.declared.Refusal.{Refusal}
 use Rattle.table.specs.declared.Refusal.the-variants.{Uneven, NoRoom, Outside}
-use Rattle.table.specs.declared.Table.{Table}
 use Rattle.table.specs.Tests.{Test, unless, Passes, Fails}
 use Rattle.table.specs.File.{readFile}
 use Rattle.replay.specs.declared.Replayed.{Replayed}
 use Rattle.replay.specs.declared.Replayed.the-variants.{Played, Refused}
-use Rattle.replay.specs.Play.{FirstOutside, ReplayOutcome}
+use Rattle.replay.specs.Play.{FirstOutside}
 use Rattle.on_bytes.specs.OnFile.{onFile}
 use Rattle.on_bytes.specs.Places.{traceTest}
 
@@ -41,6 +40,7 @@ Cause m trace start stamps order₀ due₀ r =
     Fails (bytesTests m trace stamps order₀ due₀) r
     ⊎ (Passes (bytesTests m trace stamps order₀ due₀) × ((s : ℕ) × FirstOutside (pathIn m trace) (gapsFrom start (wholes 4 stamps)) s × (r ≡ Outside s)))
 
+-- "A refusal .. writes nothing"
 pub record RefusesBytes (m : Machine) (trace : List ℕ) (start : ℕ) (stamps order₀ due₀ : List ℕ) (r : Refusal) (order due : List ℕ) : Type 0 where
   pub why : Cause m trace start stamps order₀ due₀ r
   pub order-kept : order ≡ order₀
@@ -56,29 +56,12 @@ pub record PlaysBytes (m : Machine) (trace : List ℕ) (start : ℕ) (stamps ord
   pub dues : due ≡ bytes 4 (map (λ x. x .time) responses) ++ drop (4 * (length trace / 2)) due₀
 
 -- with a machine that was read
-abbrev pub MachineOutcome : Machine → List ℕ → ℕ → List ℕ → List ℕ → List ℕ → Replayed → List ℕ → List ℕ → Type 0
-MachineOutcome m trace start stamps order₀ due₀ Played order due = PlaysBytes m trace start stamps order₀ due₀ order due
-MachineOutcome m trace start stamps order₀ due₀ (Refused r) order due = RefusesBytes m trace start stamps order₀ due₀ r order due
+abbrev pub ReplayOnMachine : Machine → List ℕ → ℕ → List ℕ → List ℕ → List ℕ → Replayed → List ℕ → List ℕ → Type 0
+ReplayOnMachine m trace start stamps order₀ due₀ Played order due = PlaysBytes m trace start stamps order₀ due₀ order due
+ReplayOnMachine m trace start stamps order₀ due₀ (Refused r) order due = RefusesBytes m trace start stamps order₀ due₀ r order due
 
-abbrev pub BytesOutcome : List ℕ → List ℕ → ℕ → List ℕ → List ℕ → List ℕ → Replayed → List ℕ → List ℕ → Type 0
-BytesOutcome file trace start stamps order₀ due₀ answer order due =
+abbrev pub ReplayBytesOutcome : List ℕ → List ℕ → ℕ → List ℕ → List ℕ → List ℕ → Replayed → List ℕ → List ℕ → Type 0
+ReplayBytesOutcome file trace start stamps order₀ due₀ answer order due =
     onFile (readFile file)
     (λ r. (answer ≡ Refused r) × (order ≡ order₀) × (due ≡ due₀))
-    (λ m. MachineOutcome m trace start stamps order₀ due₀ answer order due)
-
--- the used places written back: n numbers of o, at the front of the bytes l
-abbrev pub wroteBack : ℕ → Replayed → ℕ → List ℕ → List ℕ → List ℕ
-wroteBack w Played n o l = placed l 0 (bytes w (take n o))
-wroteBack w (Refused r) n o l = l
-
--- the call on values, with room for the whole places of two byte buffers, its used places written back
-pub record Called (t : Table) (trace : List ℕ) (start : ℕ) (stamps order₀ due₀ : List ℕ) (answer : Replayed) (order due : List ℕ) : Type 0 where
-  pub o₀ : List ℕ
-  pub d₀ : List ℕ
-  pub o : List ℕ
-  pub d : List ℕ
-  pub order-room : length o₀ ≡ min (length order₀ / 2) 512
-  pub due-room : length d₀ ≡ min (length due₀ / 4) 512
-  pub outcome : ReplayOutcome t trace start stamps o₀ d₀ answer o d
-  pub orders : order ≡ wroteBack 2 answer (length trace) o order₀
-  pub dues : due ≡ wroteBack 4 answer (length trace) d due₀
+    (λ m. ReplayOnMachine m trace start stamps order₀ due₀ answer order due)

@@ -14,6 +14,6 @@ pub record Rewritten (file out₀ : List ℕ) (answer : Written) (out : List ℕ
   pub fits : length file ≤ length out₀ → (answer ≡ Bytes (length file)) × (out ≡ file ++ drop (length file) out₀)
   pub short : length out₀ < length file → (answer ≡ Refused NoRoom) × (out ≡ out₀)
 
-abbrev pub RewriteOutcome : List ℕ → List ℕ → Written → List ℕ → Type 0
-RewriteOutcome file out₀ answer out =
+abbrev pub RewriteBytesOutcome : List ℕ → List ℕ → Written → List ℕ → Type 0
+RewriteBytesOutcome file out₀ answer out =
     onFile (readFile file) (λ r. (answer ≡ Refused r) × (out ≡ out₀)) (λ m. Rewritten file out₀ answer out)

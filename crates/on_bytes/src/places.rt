@@ -35,6 +35,7 @@ pub(crate) fn fours_in(b: &[u8], out: &mut [u32]) -> usize
     b.len() / 4
 }
 
+// The lesser of two counts.
 fn lesser(a: usize, b: usize) -> usize
     ensures { λ r. ⌜ r ≡ min a b ⌝ }
 {

@@ -7,20 +7,21 @@ ghost use lib.ListN.{length};
 ghost use Rattle.table.specs.declared.Checked.the-variants.{Sound};
 ghost use Rattle.table.specs.Rows.{machineOf};
 ghost use Rattle.table.specs.Check.{checkOf};
-ghost use Rattle.on_bytes.specs.Replays.{MachineOutcome, Called};
+ghost use Rattle.on_bytes.specs.Replays.{ReplayOnMachine};
+ghost use Rattle.on_bytes.specs.ValueCall.{Called};
 
 // The call on values, with the lent room in places, and the used places written back.
-fn called(
+fn call(
     t: Table,
     trace: &[u16],
     start: u32,
     stamps: &[u32],
     order: &mut [u8],
     due: &mut [u8],
-    firsts: &mut [u16],
+    ranked: &mut [u16],
     times: &mut [u32],
 ) -> Replayed
-    requires { ⌜ (length (now firsts) ≡ 512) × (length (now times) ≡ 512) ⌝ }
+    requires { ⌜ (length (now ranked) ≡ 512) × (length (now times) ≡ 512) ⌝ }
     ensures { λ r. ⌜ Called t (now (trace .entry)) start (now (stamps .entry)) (now (order .entry)) (now (due .entry)) r (now (order .exit)) (now (due .exit)) ⌝ }
 {
     let room = places::room_of_twos(order.len(), 512);
@@ -30,13 +31,13 @@ fn called(
         trace,
         start,
         stamps,
-        &mut firsts[..room],
+        &mut ranked[..room],
         &mut times[..late],
     );
     if let Replayed::Refused(x) = r {
         return Replayed::Refused(x);
     }
-    places::put_back_twos(order, firsts, trace.len());
+    places::put_back_twos(order, ranked, trace.len());
     places::put_back_fours(due, times, trace.len());
     Replayed::Played
 }
@@ -51,22 +52,22 @@ pub(crate) fn replay_on(
     due: &mut [u8],
 ) -> Replayed
     requires { ⌜ checkOf t ≡ Sound ⌝ }
-    ensures { λ r. ⌜ MachineOutcome (machineOf t) (now (trace .entry)) start (now (stamps .entry)) (now (order .entry)) (now (due .entry)) r (now (order .exit)) (now (due .exit)) ⌝ }
+    ensures { λ r. ⌜ ReplayOnMachine (machineOf t) (now (trace .entry)) start (now (stamps .entry)) (now (order .entry)) (now (due .entry)) r (now (order .exit)) (now (due .exit)) ⌝ }
 {
     let mut steps = [0u16; 512];
     let mut marks = [0u32; 512];
-    let mut firsts = [0u16; 512];
+    let mut ranked = [0u16; 512];
     let mut times = [0u32; 512];
     let n = places::twos_in(trace, &mut steps);
     let k = places::fours_in(stamps, &mut marks);
-    called(
+    call(
         t,
         &steps[..n],
         start,
         &marks[..k],
         order,
         due,
-        &mut firsts,
+        &mut ranked,
         &mut times,
     )
 }

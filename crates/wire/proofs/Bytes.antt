@@ -11,7 +11,7 @@ use native.Mathlib.Omega.{arith}
 use borrow.Author.Tests.{le-leb, lt-leb}
 use lib.ListN.{length, take, drop, getD, set, length-append, length-take, length-drop, take-append-drop, List·getD-eq-default}
 use lib.Seq.{sets, sets-eq, set-at, take-at, take-add, drop-at, drop-append-add, drop-drop, drop-cons, take-suc, take-length, getD-append-add, getD-drop, getD-take}
-use Rattle.wire.specs.Bytes.{le, digits, bytes, placed, Bytes, les, wholes, taken}
+use Rattle.wire.specs.Bytes.{le, digits, bytes, placed, Bytes, les, taken}
 
 pub length-digits : (w x : ℕ) → length (digits w x) ≡ w
 length-digits zero x = refl

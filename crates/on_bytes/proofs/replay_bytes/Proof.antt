@@ -13,15 +13,19 @@ enum-known-read c = search needs
 returns : tie.Need-returns
 returns c =
     let p = c .before .before .before in
-    rw (refused-stopped (p .before .before .before .before .before .before .args .file .now) (p .read-table .result) (p .read-table .ensures) _ (c .before .read .given .1)) (refl, refl, refl)
+    let l = p .before .before .before .before .before .before .args .file .now in
+    rw (refused-stopped l (p .read-table .result) (p .read-table .ensures) _ (c .before .read .given .1)) (refl, refl, refl)
 
 enum-told : tie.Need-enum-told
 enum-told c = search needs
 
 replay-on-requires : tie.Need-replay-on-requires
 replay-on-requires c κs =
-    let p = c .before .before .before .before in
-    sound-checks (p .before .before .before .before .before .before .args .file .now) (p .read-table .result) (p .read-table .ensures) (c .before .before .enum-told .given .1) (λ i. p .before .before .before .before .before .shared-slice-known .given i .fits)
+    let e = c .before .before in
+    let p = e .before .before in
+    let k = p .before .before .before .before .before in
+    let l = k .before .args .file .now in
+    sound-checks l (p .read-table .result) (p .read-table .ensures) (e .enum-told .given .1) (λ i. k .shared-slice-known .given i .fits)
 
 same-length : tie.Need-same-length
 same-length c = search needs
@@ -31,8 +35,10 @@ same-length-2 c = search needs
 
 returns-2 : tie.Need-returns-2
 returns-2 c =
-    let p = c .before .before .before .before .before .before .before .before .before in
-    rw (sound-read (p .before .before .before .before .before .before .args .file .now) (p .read-table .result) (p .read-table .ensures) (c .before .before .before .before .before .before .before .enum-told .given .1)) (c .before .before .before .before .replay-on .ensures)
+    let e = c .before .before .before .before .before .before .before in
+    let p = e .before .before in
+    let l = p .before .before .before .before .before .before .args .file .now in
+    rw (sound-read l (p .read-table .result) (p .read-table .ensures) (e .enum-told .given .1)) (c .before .before .before .before .replay-on .ensures)
 
 pub replay-bytes-spec : {M : Type 1} → statement M
 replay-bytes-spec =

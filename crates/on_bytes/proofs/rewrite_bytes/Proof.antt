@@ -1,5 +1,6 @@
 use borrow.Author.Needs.{needs}
 use mathlib.Core.Path.{refl}
+use Rattle.wire.specs.Bytes.{Bytes}
 use Rattle.on_bytes.proofs.ReadingLaws.{refused-stopped, sound-read, rewritten}
 use Rattle.on_bytes.proofs.rewrite_bytes.Statement.{statement}
 use Rattle.on_bytes.proofs.rewrite_bytes.Tie as tie
@@ -13,7 +14,8 @@ enum-known-read c = search needs
 returns : tie.Need-returns
 returns c =
     let p = c .before .before .before in
-    rw (refused-stopped (p .before .before .before .args .file .now) (p .read-table .result) (p .read-table .ensures) _ (c .before .read .given .1)) (refl, refl)
+    let l = p .before .before .before .args .file .now in
+    rw (refused-stopped l (p .read-table .result) (p .read-table .ensures) _ (c .before .read .given .1)) (refl, refl)
 
 enum-told : tie.Need-enum-told
 enum-told c = search needs
@@ -26,10 +28,13 @@ same-length c = search needs
 
 returns-2 : tie.Need-returns-2
 returns-2 c =
-    let p = c .before .before .before .before .before .before in
-    let l = p .before .before .before .args .file .now in
-    let w = rewritten l (p .read-table .result) (p .read-table .ensures) (c .before .before .before .before .enum-told .given .1) (λ i. p .before .before .shared-slice-known .given i .fits) _ _ _ (c .before .before .write-table .ensures) in
-    rw (sound-read l (p .read-table .result) (p .read-table .ensures) (c .before .before .before .before .enum-told .given .1)) w
+    let e = c .before .before .before .before in
+    let p = e .before .before in
+    let k = p .before .before in
+    let l = k .before .args .file .now in
+    let known : Bytes l = λ i. k .shared-slice-known .given i .fits in
+    let w = rewritten l (p .read-table .result) (p .read-table .ensures) (e .enum-told .given .1) known _ _ _ (c .before .before .write-table .ensures) in
+    rw (sound-read l (p .read-table .result) (p .read-table .ensures) (e .enum-told .given .1)) w
 
 pub rewrite-bytes-spec : {M : Type 1} → statement M
 rewrite-bytes-spec =

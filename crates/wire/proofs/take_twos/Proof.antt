@@ -49,7 +49,8 @@ loop-again : tie.Need-loop-again Inv-loop μ-loop
 loop-again c =
     let a = c .before .before .before .before .before .before .args in
     let l = c .before .before .before .loop in
-    (omega arith, omega arith, simp length-set (l .inv .2), taking-more 2 (a .b .now) (a .out .now) (l .out) (l .i) (c .two .result) (omega arith) (l .inv .3) (c .two .ensures))
+    let more = taking-more 2 (a .b .now) (a .out .now) (l .out) (l .i) (c .two .result) (omega arith) (l .inv .3) (c .two .ensures) in
+    (omega arith, omega arith, simp length-set (l .inv .2), more)
 
 same-length-2 : tie.Need-same-length-2 Inv-loop μ-loop
 same-length-2 c = search needs

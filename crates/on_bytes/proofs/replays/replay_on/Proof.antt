@@ -20,23 +20,23 @@ fours-in-requires c κs = search needs
 array-share-prefix-steps : tie.Need-array-share-prefix-steps
 array-share-prefix-steps c = search needs
 
-slice-aggregate-called : tie.Need-slice-aggregate-called
-slice-aggregate-called c = simp length-take (omega arith)
+slice-aggregate-call : tie.Need-slice-aggregate-call
+slice-aggregate-call c = simp length-take (omega arith)
 
 array-share-prefix-marks : tie.Need-array-share-prefix-marks
 array-share-prefix-marks c = search needs
 
-slice-aggregate-called-2 : tie.Need-slice-aggregate-called-2
-slice-aggregate-called-2 c = simp length-take (omega arith)
+slice-aggregate-call-2 : tie.Need-slice-aggregate-call-2
+slice-aggregate-call-2 c = simp length-take (omega arith)
 
-slice-aggregate-called-3 : tie.Need-slice-aggregate-called-3
-slice-aggregate-called-3 c = search needs
+slice-aggregate-call-3 : tie.Need-slice-aggregate-call-3
+slice-aggregate-call-3 c = search needs
 
-slice-aggregate-called-4 : tie.Need-slice-aggregate-called-4
-slice-aggregate-called-4 c = search needs
+slice-aggregate-call-4 : tie.Need-slice-aggregate-call-4
+slice-aggregate-call-4 c = search needs
 
-called-requires : tie.Need-called-requires
-called-requires c κs = search needs
+call-requires : tie.Need-call-requires
+call-requires c κs = search needs
 
 same-length : tie.Need-same-length
 same-length c = search needs
@@ -47,10 +47,12 @@ same-length-2 c = search needs
 returns : tie.Need-returns
 returns c =
     let p = c .before .before .before .before .before .before in
-    let s = p .before .before .before .before .before .before .before .before .before .before .before .before .before .before .before .before .before in
+    let q = p .before .before .before .before .before .before .before .before in
+    let r = q .before .before .before in
+    let s = r .before .before .before .before .before .before in
     let a = s .args in
-    on-bytes (a .t) (s .pre) (a .trace .now) (a .start) (a .stamps .now) (a .order .now) (a .due .now)
-    (p .before .before .before .before .before .before .before .before .before .before .before .twos-in .ensures) (p .before .before .before .before .before .before .before .before .fours-in .ensures) (p .called .ensures)
+    on-bytes (a .t) (s .pre) (a .trace .now) (a .start) (a .stamps .now) (a .order .now) (a .due .now) (r .twos-in .ensures) (q .fours-in .ensures)
+    (p .call .ensures)
 
 pub replay-on-spec : {M : Type 1} → statement M
 replay-on-spec =
@@ -61,12 +63,12 @@ replay-on-spec =
     slice-aggregate-fours-in
     fours-in-requires
     array-share-prefix-steps
-    slice-aggregate-called
+    slice-aggregate-call
     array-share-prefix-marks
-    slice-aggregate-called-2
-    slice-aggregate-called-3
-    slice-aggregate-called-4
-    called-requires
+    slice-aggregate-call-2
+    slice-aggregate-call-3
+    slice-aggregate-call-4
+    call-requires
     same-length
     same-length-2
     returns)

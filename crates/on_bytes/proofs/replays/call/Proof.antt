@@ -2,8 +2,8 @@ use borrow.Author.Needs.{needs}
 use native.Mathlib.Omega.{arith}
 use lib.ListN.{length-append, length-take}
 use Rattle.on_bytes.proofs.ByteLaws.{plays-long, called-refused, called-played}
-use Rattle.on_bytes.proofs.replays.called.Statement.{statement}
-use Rattle.on_bytes.proofs.replays.called.Tie as tie
+use Rattle.on_bytes.proofs.replays.call.Statement.{statement}
+use Rattle.on_bytes.proofs.replays.call.Tie as tie
 
 room-of-twos-requires : tie.Need-room-of-twos-requires
 room-of-twos-requires c κs = search needs
@@ -40,7 +40,7 @@ returns c =
     let p = c .before .before .before .before .before .before .before in
     let s = p .before .before .before .before .before .before .before .before .before .before .before in
     let a = s .args in
-    called-refused (a .t) (a .trace .now) (a .start) (a .stamps .now) (a .order .now) (a .due .now) (a .firsts .now) (a .times .now)
+    called-refused (a .t) (a .trace .now) (a .start) (a .stamps .now) (a .order .now) (a .due .now) (a .ranked .now) (a .times .now)
     _ _ (p .before .before .before .before .room-of-twos .ensures) (p .before .before .before .room-of-fours .ensures) (s .pre .0) (s .pre .1)
     _ (rw (c .before .r .given .1) at (p .replay .ensures))
 
@@ -81,12 +81,13 @@ returns-2 c =
     let p = e .before .before .before .before .before .before in
     let s = p .before .before .before .before .before .before .before .before .before .before .before in
     let a = s .args in
-    called-played (a .t) (a .trace .now) (a .start) (a .stamps .now) (a .order .now) (a .due .now) (a .firsts .now) (a .times .now)
+    called-played (a .t) (a .trace .now) (a .start) (a .stamps .now) (a .order .now) (a .due .now) (a .ranked .now) (a .times .now)
     _ _ (p .before .before .before .before .room-of-twos .ensures) (p .before .before .before .room-of-fours .ensures) (s .pre .0) (s .pre .1)
-    _ _ _ _ _ _ (rw (e .enum-told .given .1) at (p .replay .ensures)) (c .before .before .before .before .before .before .before .put-back-twos .ensures) (c .before .before .put-back-fours .ensures)
+    _ _ _ _ _ _ (rw (e .enum-told .given .1) at (p .replay .ensures))
+    (c .before .before .before .before .before .before .before .put-back-twos .ensures) (c .before .before .put-back-fours .ensures)
 
-pub called-spec : {M : Type 1} → statement M
-called-spec =
+pub call-spec : {M : Type 1} → statement M
+call-spec =
     tie.close
     (tie.spec
     room-of-twos-requires
