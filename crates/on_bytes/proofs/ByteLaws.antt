@@ -1,5 +1,5 @@
 -- Replay on bytes by the call on values.
-use mathlib.Core.Path.{_≡_, refl, sym, _∙_}
+use mathlib.Core.Path.{_≡_, refl, sym, ap, _∙_}
 use mathlib.Core.Logic.{inl, inr, ⊎-elim}
 use mathlib.Core.List.{List, _++_, map}
 use Prim.Native.Nat.{ℕ, _*_, _/_, min, _≤_}
@@ -20,11 +20,11 @@ use Rattle.replay.specs.declared.Replayed.the-variants.{Played, Refused}
 use Rattle.replay.specs.Play.{replayTests, RefusesReplay, Plays}
 use Rattle.replay.proofs.ReplayLaws.{otherTests, passed-handed, passed-stamped}
 use Rattle.replay.proofs.OutcomeLaws.{plays-length}
-use Rattle.on_bytes.specs.Places.{handedOn, Decoded}
+use Rattle.places.specs.Places.{fitted, handedOn, Decoded}
 use Rattle.on_bytes.specs.Replays.{bytesTests, Cause, PlaysBytes, ReplayOnMachine}
 use Rattle.on_bytes.specs.ValueCall.{wroteBack, Called}
-use Rattle.on_bytes.proofs.PlaceLaws.{handed-whole, handed-count, count-handed, trace-whole, whole-trace, trace-count, back}
-use Rattle.on_bytes.proofs.AgreeLaws.{Agree, agree-passes, agree-fails, after-passes, after-fails}
+use Rattle.places.proofs.PlaceLaws.{decoded-take, handed-whole, handed-count, count-handed, trace-whole, whole-trace, trace-count, back}
+use Rattle.places.proofs.AgreeLaws.{Agree, agree-passes, agree-fails, after-passes, after-fails}
 
 -- a replay that is played fills the places of its steps
 pub plays-long : (t : Table) (trace : List ℕ) (start : ℕ) (stamps o₀ d₀ o d : List ℕ) → Plays t trace start stamps o₀ d₀ o d
@@ -159,7 +159,10 @@ module _ (t : Table) (sound : checkOf t ≡ Sound) (trace : List ℕ) (start : �
     due-kept = x .dues;
   }
 
-  pub on-bytes : {n k : ℕ} {steps marks order due : List ℕ} {answer : Replayed} → Decoded 2 trace n steps → Decoded 4 stamps k marks
-      → Called t (take n steps) start (take k marks) order₀ due₀ answer order due
+  pub on-bytes : {n k : ℕ} {s₀ m₀ steps marks order due : List ℕ} {answer : Replayed} → Decoded 2 trace s₀ n steps → Decoded 4 stamps m₀ k marks
+      → length s₀ ≡ 512 → length m₀ ≡ 512 → Called t (take n steps) start (take k marks) order₀ due₀ answer order due
       → ReplayOnMachine (machineOf t) trace start stamps order₀ due₀ answer order due
-  on-bytes {order = order} {due = due} {answer = answer} p q x = answered answer order due (rw (p .is, q .is) at x)
+  on-bytes {s₀ = s₀} {m₀ = m₀} {order = order} {due = due} {answer = answer} p q a b x =
+      let f = ap (λ r. fitted r 2 trace) a in
+      let g = ap (λ r. fitted r 4 stamps) b in
+      answered answer order due (rw (decoded-take 2 trace s₀ p ∙ f, decoded-take 4 stamps m₀ q ∙ g) at x)

@@ -1,5 +1,3 @@
-pub mod PlaceLaws
-pub mod AgreeLaws
-pub mod ReadingLaws
+pub mod RewriteLaws
 pub mod ByteLaws
 pub mod OnlyLaws

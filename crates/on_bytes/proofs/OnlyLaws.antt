@@ -12,21 +12,16 @@ use Rattle.model.proofs.Conversion.{conversion-only}
 use Rattle.wire.specs.Bytes.{wholes}
 use Rattle.table.specs.declared.Refusal.{Refusal}
 use Rattle.table.specs.declared.Written.{Written}
-use Rattle.table.specs.File.{Scan, machine, stopped, readFile}
+use Rattle.table.specs.File.{readFile}
 use Rattle.table.specs.Tests.{Test}
 use Rattle.replay.specs.declared.Replayed.{Replayed}
 use Rattle.replay.specs.declared.Replayed.the-variants.{Played, Refused}
 use Rattle.replay.proofs.OutcomeLaws.{cause-only, no-cause}
-use Rattle.on_bytes.specs.OnFile.{onFile}
-use Rattle.on_bytes.specs.Replays.{bytesTests, pathIn, wordIn, Cause, PlaysBytes, ReplayOnMachine, ReplayBytesOutcome}
+use Rattle.on_bytes.specs.Replays.{bytesTests, wordIn, Cause, PlaysBytes, ReplayOnMachine, ReplayBytesOutcome}
 use Rattle.on_bytes.specs.Rewrites.{RewriteBytesOutcome}
-use Rattle.on_bytes.proofs.PlaceLaws.{length-wholes}
-
--- two facts of one file: by its refusal or by its machine
-pub on-file : (s : Scan) (P P' : Refusal → Type 0) (Q Q' : Machine → Type 0) {C : Type 0} → ((r : Refusal) → P r → P' r → C)
-    → ((m : Machine) → Q m → Q' m → C) → onFile s P Q → onFile s P' Q' → C
-on-file (machine m) P P' Q Q' f g a b = g m a b
-on-file (stopped r) P P' Q Q' f g a b = f r a b
+use Rattle.places.specs.Places.{pathIn}
+use Rattle.places.proofs.PlaceLaws.{length-wholes}
+use Rattle.places.proofs.ReadingLaws.{on-file}
 
 pub rewrite-bytes-only : (file out₀ : List ℕ) (a b : Written) (x y : List ℕ) → RewriteBytesOutcome file out₀ a x → RewriteBytesOutcome file out₀ b y
     → (a ≡ b) × (x ≡ y)

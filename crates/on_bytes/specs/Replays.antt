@@ -4,8 +4,7 @@ use mathlib.Core.Logic.{_⊎_}
 use mathlib.Core.List.{List, [], _∷_, _++_, map}
 use Prim.Native.Nat.{ℕ, _*_, _%_, _/_, _≤_}
 use lib.ListN.{length, drop}
-use Rattle.model.specs.Table.{Transition, Machine}
-use Rattle.model.specs.Trace.{steps}
+use Rattle.model.specs.Table.{Machine}
 use Rattle.model.specs.Word.{Word, Activates}
 use Rattle.model.specs.Order.{Response, Conversion}
 use Rattle.model.specs.Stamps.{gapsFrom, wordFrom}
@@ -17,8 +16,8 @@ use Rattle.table.specs.File.{readFile}
 use Rattle.replay.specs.declared.Replayed.{Replayed}
 use Rattle.replay.specs.declared.Replayed.the-variants.{Played, Refused}
 use Rattle.replay.specs.Play.{FirstOutside}
-use Rattle.on_bytes.specs.OnFile.{onFile}
-use Rattle.on_bytes.specs.Places.{traceTest}
+use Rattle.places.specs.OnFile.{onFile}
+use Rattle.places.specs.Places.{pathIn, traceTest}
 
 -- the tests after the file's
 abbrev pub bytesTests : Machine → List ℕ → List ℕ → List ℕ → List ℕ → List Test
@@ -27,10 +26,7 @@ bytesTests m trace stamps order₀ due₀ =
     unless Uneven ((length stamps % 4 ≡ 0) × (length stamps / 4 ≡ length trace / 2)) ∷
     unless NoRoom ((length trace / 2 ≤ length order₀ / 2) × (length trace / 2 ≤ length due₀ / 4)) ∷ []
 
--- the transitions that a trace in bytes names, and the word that stamps in bytes make on them
-abbrev pub pathIn : Machine → List ℕ → List Transition
-pathIn m trace = steps (m .transitions) (wholes 2 trace)
-
+-- the word that stamps in bytes make on a trace
 abbrev pub wordIn : Machine → List ℕ → ℕ → List ℕ → Word
 wordIn m trace start stamps = wordFrom (pathIn m trace) start (wholes 4 stamps)
 

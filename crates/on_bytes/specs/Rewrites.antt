@@ -7,7 +7,7 @@ use Rattle.table.specs.declared.Refusal.the-variants.{NoRoom}
 use Rattle.table.specs.declared.Written.{Written}
 use Rattle.table.specs.declared.Written.the-variants.{Bytes, Refused}
 use Rattle.table.specs.File.{readFile}
-use Rattle.on_bytes.specs.OnFile.{onFile}
+use Rattle.places.specs.OnFile.{onFile}
 
 -- "writing needs at least the file's length"
 pub record Rewritten (file out₀ : List ℕ) (answer : Written) (out : List ℕ) : Type 0 where

@@ -5,7 +5,6 @@ use table::Written;
 ghost use Rattle.on_bytes.specs.Replays.{ReplayBytesOutcome};
 ghost use Rattle.on_bytes.specs.Rewrites.{RewriteBytesOutcome};
 
-mod places;
 mod replays;
 
 // Reads a table file and writes it.

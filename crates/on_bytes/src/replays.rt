@@ -1,5 +1,4 @@
 // Replay of a word in bytes with a table that was read.
-use crate::places;
 use replay::Replayed;
 use table::Table;
 ghost use mathlib.Core.Path.{_≡_};
@@ -24,8 +23,8 @@ fn call(
     requires { ⌜ (length (now ranked) ≡ 512) × (length (now times) ≡ 512) ⌝ }
     ensures { λ r. ⌜ Called t (now (trace .entry)) start (now (stamps .entry)) (now (order .entry)) (now (due .entry)) r (now (order .exit)) (now (due .exit)) ⌝ }
 {
-    let room = places::room_of_twos(order.len(), 512);
-    let late = places::room_of_fours(due.len(), 512);
+    let room = places::lesser(order.len() / 2, 512);
+    let late = places::lesser(due.len() / 4, 512);
     let r = replay::replay(
         t,
         trace,

@@ -1,6 +1,6 @@
 use borrow.Author.Needs.{needs}
 use mathlib.Core.Path.{refl}
-use Rattle.on_bytes.proofs.ReadingLaws.{refused-stopped, sound-read, sound-checks}
+use Rattle.places.proofs.ReadingLaws.{refused-stopped, sound-read, sound-checks}
 use Rattle.on_bytes.proofs.replay_bytes.Statement.{statement}
 use Rattle.on_bytes.proofs.replay_bytes.Tie as tie
 

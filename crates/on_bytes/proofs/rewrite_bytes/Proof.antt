@@ -1,7 +1,8 @@
 use borrow.Author.Needs.{needs}
 use mathlib.Core.Path.{refl}
 use Rattle.wire.specs.Bytes.{Bytes}
-use Rattle.on_bytes.proofs.ReadingLaws.{refused-stopped, sound-read, rewritten}
+use Rattle.places.proofs.ReadingLaws.{refused-stopped, sound-read}
+use Rattle.on_bytes.proofs.RewriteLaws.{rewritten}
 use Rattle.on_bytes.proofs.rewrite_bytes.Statement.{statement}
 use Rattle.on_bytes.proofs.rewrite_bytes.Tie as tie
 

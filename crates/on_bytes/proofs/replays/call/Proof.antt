@@ -1,15 +1,15 @@
 use borrow.Author.Needs.{needs}
 use native.Mathlib.Omega.{arith}
-use lib.ListN.{length-append, length-take}
-use Rattle.on_bytes.proofs.ByteLaws.{plays-long, called-refused, called-played}
+use lib.ListN.{length-take}
+use Rattle.on_bytes.proofs.ByteLaws.{called-refused, called-played}
 use Rattle.on_bytes.proofs.replays.call.Statement.{statement}
 use Rattle.on_bytes.proofs.replays.call.Tie as tie
 
-room-of-twos-requires : tie.Need-room-of-twos-requires
-room-of-twos-requires c κs = search needs
+lesser-requires : tie.Need-lesser-requires
+lesser-requires c κs = search needs
 
-room-of-fours-requires : tie.Need-room-of-fours-requires
-room-of-fours-requires c κs = search needs
+lesser-requires-2 : tie.Need-lesser-requires-2
+lesser-requires-2 c κs = search needs
 
 slice-relend-prefix-replay : tie.Need-slice-relend-prefix-replay
 slice-relend-prefix-replay c = search needs
@@ -41,27 +41,17 @@ returns c =
     let s = p .before .before .before .before .before .before .before .before .before .before .before in
     let a = s .args in
     called-refused (a .t) (a .trace .now) (a .start) (a .stamps .now) (a .order .now) (a .due .now) (a .ranked .now) (a .times .now)
-    _ _ (p .before .before .before .before .room-of-twos .ensures) (p .before .before .before .room-of-fours .ensures) (s .pre .0) (s .pre .1)
+    _ _ (p .before .before .before .before .lesser .ensures) (p .before .before .before .lesser2 .ensures) (s .pre .0) (s .pre .1)
     _ (rw (c .before .r .given .1) at (p .replay .ensures))
 
 enum-told : tie.Need-enum-told
 enum-told c = search needs
 
 put-back-twos-requires : tie.Need-put-back-twos-requires
-put-back-twos-requires c κs =
-    let e = c .before .before in
-    let p = e .before .before .before .before .before .before in
-    let a = p .before .before .before .before .before .before .before .before .before .before .before .args in
-    let long = plays-long (a .t) (a .trace .now) (a .start) (a .stamps .now) _ _ _ _ (rw (e .enum-told .given .1) at (p .replay .ensures)) in
-    simp length-append (omega (arith, long .0))
+put-back-twos-requires c κs = search needs
 
 put-back-fours-requires : tie.Need-put-back-fours-requires
-put-back-fours-requires c κs =
-    let e = c .before .before .before .before .before .before .before in
-    let p = e .before .before .before .before .before .before in
-    let a = p .before .before .before .before .before .before .before .before .before .before .before .args in
-    let long = plays-long (a .t) (a .trace .now) (a .start) (a .stamps .now) _ _ _ _ (rw (e .enum-told .given .1) at (p .replay .ensures)) in
-    simp length-append (omega (arith, long .1))
+put-back-fours-requires c κs = search needs
 
 same-length-3 : tie.Need-same-length-3
 same-length-3 c = search needs
@@ -82,7 +72,7 @@ returns-2 c =
     let s = p .before .before .before .before .before .before .before .before .before .before .before in
     let a = s .args in
     called-played (a .t) (a .trace .now) (a .start) (a .stamps .now) (a .order .now) (a .due .now) (a .ranked .now) (a .times .now)
-    _ _ (p .before .before .before .before .room-of-twos .ensures) (p .before .before .before .room-of-fours .ensures) (s .pre .0) (s .pre .1)
+    _ _ (p .before .before .before .before .lesser .ensures) (p .before .before .before .lesser2 .ensures) (s .pre .0) (s .pre .1)
     _ _ _ _ _ _ (rw (e .enum-told .given .1) at (p .replay .ensures))
     (c .before .before .before .before .before .before .before .put-back-twos .ensures) (c .before .before .put-back-fours .ensures)
 
@@ -90,8 +80,8 @@ pub call-spec : {M : Type 1} → statement M
 call-spec =
     tie.close
     (tie.spec
-    room-of-twos-requires
-    room-of-fours-requires
+    lesser-requires
+    lesser-requires-2
     slice-relend-prefix-replay
     slice-aggregate-replay
     slice-relend-prefix-replay-2

@@ -52,7 +52,7 @@ returns c =
     let s = r .before .before .before .before .before .before in
     let a = s .args in
     on-bytes (a .t) (s .pre) (a .trace .now) (a .start) (a .stamps .now) (a .order .now) (a .due .now) (r .twos-in .ensures) (q .fours-in .ensures)
-    (p .call .ensures)
+    (search needs) (search needs) (p .call .ensures)
 
 pub replay-on-spec : {M : Type 1} → statement M
 replay-on-spec =

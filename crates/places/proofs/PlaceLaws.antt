@@ -6,31 +6,50 @@ use Prim.Native.Nat.{ℕ, _+_, _*_, _%_, _/_, min, _≤_, _<_}
 use native.Mathlib.Decide.{decLt}
 use native.Mathlib.Omega.{arith}
 use borrow.Author.Tests.{lt-ltb, le-ltb}
-use lib.ListN.{length, take, drop, length-append, length-drop}
-use lib.Seq.{take-at}
+use lib.ListN.{length, take, drop}
+use lib.Seq.{take-at, take-all, take-length}
 use Rattle.model.specs.Table.{Transition}
 use Rattle.model.specs.Trace.{Handed}
 use Rattle.wire.specs.Bytes.{bytes, placed, wholes, taken}
 use Rattle.wire.proofs.Bytes.{length-les, length-bytes, placed-fits}
-use Rattle.on_bytes.specs.Places.{handedOn, Decoded}
+use Rattle.places.specs.Places.{fitted, handedOn, Decoded}
 
 pub length-wholes : (w : ℕ) (b : List ℕ) → length (wholes w b) ≡ length b / w
 length-wholes w b = length-les w (length b / w) b 0
 
-module _ (w : ℕ) (b : List ℕ) where
-  pub rest-none : 0 < length b % w → handedOn w b ≡ []
-  unfolding handedOn
+-- what fits, by its three cases
+module _ (room w : ℕ) (b : List ℕ) where
+  pub rest-none : 0 < length b % w → fitted room w b ≡ []
+  unfolding fitted
   rest-none h = rw (lt-ltb _ _ h)
 
   module _ (even : length b % w ≤ 0) where
-    pub long-none : 512 < length b / w → handedOn w b ≡ []
-    unfolding handedOn
+    pub long-none : room < length b / w → fitted room w b ≡ []
+    unfolding fitted
     long-none h = rw (le-ltb _ _ even, lt-ltb _ _ h)
 
-    pub whole-all : length b / w ≤ 512 → handedOn w b ≡ wholes w b
-    unfolding handedOn
+    pub whole-all : length b / w ≤ room → fitted room w b ≡ wholes w b
+    unfolding fitted
     whole-all h = rw (le-ltb _ _ even, le-ltb _ _ h)
 
+-- what the decoding leaves
+module _ (w : ℕ) (b out₀ : List ℕ) where
+  pub decoded-none : fitted (length out₀) w b ≡ [] → Decoded w b out₀ 0 out₀
+  decoded-none e = record { count = rw e; few = omega arith; is = rw e }
+
+  pub decoded-all : (out : List ℕ) → length b % w ≤ 0 → length b / w ≤ length out₀ → out ≡ taken w b out₀ → Decoded w b out₀ (length b / w) out
+  unfolding taken
+  decoded-all out e h t =
+      let n : min (length out₀) (length b / w) ≡ length b / w = omega arith in
+      let f : out ≡ wholes w b ++ drop (length b / w) out₀ = rw n at t in
+      let g = whole-all (length out₀) w b e h in
+      record { count = rw g (sym (length-wholes w b)); few = h; is = rw g f }
+
+  -- the first n places are what fits
+  pub decoded-take : {n : ℕ} {out : List ℕ} → Decoded w b out₀ n out → take n out ≡ fitted (length out₀) w b
+  decoded-take {n} d = rw (d .is) (take-at (fitted (length out₀) w b) (drop n out₀) n (sym (d .count)))
+
+module _ (w : ℕ) (b : List ℕ) where
   -- what is handed on and not empty is the whole list
   pub record Whole : Type 0 where
     pub even : length b % w ≡ 0
@@ -39,9 +58,9 @@ module _ (w : ℕ) (b : List ℕ) where
 
   pub handed-whole : 1 ≤ length (handedOn w b) → Whole
   handed-whole h =
-      dite (decLt 0 (length b % w)) (λ r. absurd (omega (arith, ap length (rest-none r))))
-      (λ e. dite (decLt 512 (length b / w)) (λ l. absurd (omega (arith, ap length (long-none (omega arith) l))))
-      (λ s. record { even = omega arith; few = omega arith; is = whole-all (omega arith) (omega arith) }))
+      dite (decLt 0 (length b % w)) (λ r. absurd (omega (arith, ap length (rest-none 512 w b r))))
+      (λ e. dite (decLt 512 (length b / w)) (λ l. absurd (omega (arith, ap length (long-none 512 w b (omega arith) l))))
+      (λ s. record { even = omega arith; few = omega arith; is = whole-all 512 w b (omega arith) (omega arith) }))
 
   -- a list in bytes of n numbers, 1 to 512, told by what is handed on
   pub handed-count : (n : ℕ) → 1 ≤ n → length (handedOn w b) ≡ n → (length b % w ≡ 0) × (length b / w ≡ n)
@@ -50,22 +69,7 @@ module _ (w : ℕ) (b : List ℕ) where
       (p .even, omega (arith, ap length (p .is), length-wholes w b))
 
   pub count-handed : (n : ℕ) → n ≤ 512 → (length b % w ≡ 0) × (length b / w ≡ n) → length (handedOn w b) ≡ n
-  count-handed n h p = ap length (whole-all (omega arith) (omega arith)) ∙ length-wholes w b ∙ p .1
-
-  -- what the decoding leaves
-  pub decoded-none : (out : List ℕ) → length out ≡ 512 → handedOn w b ≡ [] → Decoded w b 0 out
-  decoded-none out l e = record { long = l; few = omega arith; is = sym e }
-
-  pub decoded-all : (out o : List ℕ) → length out ≡ 512 → length b % w ≤ 0 → length b / w ≤ 512 → o ≡ taken w b out → Decoded w b (length b / w) o
-  unfolding taken
-  decoded-all out o l e h t =
-      let n : min (length out) (length b / w) ≡ length b / w = omega arith in
-      let f : o ≡ wholes w b ++ drop (length b / w) out = rw n at t in
-      record {
-        long = rw f (simp (length-append, length-drop) (omega (arith, length-wholes w b)));
-        few = h;
-        is = rw f (take-at (wholes w b) (drop (length b / w) out) (length b / w) (length-wholes w b) ∙ sym (whole-all e h));
-      }
+  count-handed n h p = ap length (whole-all 512 w b (omega arith) (omega arith)) ∙ length-wholes w b ∙ p .1
 
 -- a trace in bytes is one exactly if what is handed on is one
 module _ (ts : List Transition) (trace : List ℕ) where
@@ -73,10 +77,16 @@ module _ (ts : List Transition) (trace : List ℕ) where
   trace-whole h = let p = handed-whole 2 trace (h .some) in (p .even, rw (p .is) at h)
 
   pub whole-trace : (length trace % 2 ≡ 0) × Handed ts (wholes 2 trace) → Handed ts (handedOn 2 trace)
-  whole-trace h = rw (whole-all 2 trace (omega arith) (omega (arith, h .1 .most, length-wholes 2 trace))) (h .1)
+  whole-trace h = rw (whole-all 512 2 trace (omega arith) (omega (arith, h .1 .most, length-wholes 2 trace))) (h .1)
 
   pub trace-count : Handed ts (handedOn 2 trace) → length (handedOn 2 trace) ≡ length trace / 2
   trace-count h = ap length (handed-whole 2 trace (h .some) .is) ∙ length-wholes 2 trace
+
+-- no more are taken than there are
+pub take-lesser : (n : ℕ) (l : List ℕ) → take (min n (length l)) l ≡ take n l
+take-lesser n l =
+    dite (decLt n (length l)) (λ h. let e : min n (length l) ≡ n = omega arith in rw e)
+    (λ h. let e : min n (length l) ≡ length l = omega arith in rw (e, take-length l, take-all n l (omega arith)))
 
 -- the used places written back: xs, of which there are n, from the front of what came back
 pub back : (w n : ℕ) (xs more l : List ℕ) → length xs ≡ n → n * w ≤ length l → placed l 0 (bytes w (take n (xs ++ more))) ≡ bytes w xs ++ drop (w * n) l

@@ -8,15 +8,13 @@ use Rattle.wire.specs.Bytes.{Bytes}
 use Rattle.table.specs.declared.Reading.{Reading}
 use Rattle.table.specs.declared.Refusal.{Refusal}
 use Rattle.table.specs.declared.Checked.the-variants.{Sound, Refused}
-use Rattle.table.specs.declared.Written.{Written}
 use Rattle.table.specs.Rows.{machineOf, tableOf}
 use Rattle.table.specs.Check.{checkOf}
 use Rattle.table.specs.File.{Scan, machine, stopped, readFile, readingOf}
 use Rattle.table.proofs.CheckLaws.{check-law}
 use Rattle.table.proofs.CellLaws.{machine-table}
-use Rattle.table.specs.Write.{WriteOutcome}
-use Rattle.table.proofs.FileLaws.{sound, read-then-write, read-then-short}
-use Rattle.on_bytes.specs.Rewrites.{Rewritten}
+use Rattle.table.proofs.FileLaws.{sound}
+use Rattle.places.specs.OnFile.{onFile}
 
 module _ (l : List ℕ) (a : Reading) (read : a ≡ readingOf (readFile l)) where
   pub refused-stopped : (r : Refusal) → a .answer ≡ Refused r → readFile l ≡ stopped r
@@ -44,12 +42,8 @@ module _ (l : List ℕ) (a : Reading) (read : a ≡ readingOf (readFile l)) wher
         let v = sound l (k .0) b (k .1) .0 in
         rw (k .2) (check-law (tableOf (k .0)) .1 (v .few, rw (machine-table (k .0)) v))
 
-    -- the table that was read, written: the file, if there is room
-    pub rewritten : Bytes l → (out₀ out : List ℕ) (answer : Written) → WriteOutcome (a .table) out₀ answer out → Rewritten l out₀ answer out
-    rewritten b out₀ out answer o =
-        let k = sound-machine in
-        let w : WriteOutcome (tableOf (k .0)) out₀ answer out = rw (k .2) at o in
-        record {
-          fits = λ h. read-then-write l (k .0) b (k .1) out₀ answer out w h;
-          short = λ h. read-then-short l (k .0) b (k .1) out₀ answer out w h;
-        }
+-- two facts of one file: by its refusal or by its machine
+pub on-file : (s : Scan) (P P' : Refusal → Type 0) (Q Q' : Machine → Type 0) {C : Type 0} → ((r : Refusal) → P r → P' r → C)
+    → ((m : Machine) → Q m → Q' m → C) → onFile s P Q → onFile s P' Q' → C
+on-file (machine m) P P' Q Q' f g a b = g m a b
+on-file (stopped r) P P' Q Q' f g a b = f r a b
