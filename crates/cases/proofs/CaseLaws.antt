@@ -1,24 +1,27 @@
--- What it takes that a case holds: the outcome that it expects is allowed, and no other one is.
+-- What it takes that a case holds: no outcome is allowed but the one that it expects.
 use mathlib.Core.Path.{_≡_, refl, sym, ap, _∙_}
 use mathlib.Core.Logic.{inr}
-use mathlib.Core.List.{List, [], _∷_, _++_, map}
+use mathlib.Core.List.{List, [], _∷_, _++_, map, append-assoc}
 use Prim.Native.Nat.{ℕ, zero, suc, _+_, _*_, _≤_, _<_}
 use native.Mathlib.Omega.{arith}
 use lib.ListN.{length, getD, drop, length-map}
-use Rattle.model.specs.Table.{Transition, at}
-use Rattle.model.specs.Trace.{Trace}
+use Rattle.model.specs.Table.{Transition, Machine, Valid, at}
+use Rattle.model.specs.Trace.{Trace, steps}
 use Rattle.model.specs.Word.{Fits, Takes}
 use Rattle.model.specs.Order.{Response, response, Conversion}
-use Rattle.model.specs.Span.{Criterion}
-use Rattle.model.specs.Stamps.{gapsFrom, spelled, wordFrom}
+use Rattle.model.specs.Span.{Criterion, WalkTurns}
+use Rattle.model.specs.Verdict.{SplitPair}
+use Rattle.model.specs.Shown.{lateWord, earlyWord}
+use Rattle.model.specs.Stamps.{gapsFrom, spelled, wordFrom, stampsOf}
 use Rattle.model.proofs.Lists.{Beside, beside-both}
 use Rattle.model.proofs.Conversion.{order, conversion-exists}
+use Rattle.model.proofs.Turn.{table-walk-law}
 use Rattle.table.specs.declared.Table.{Table}
 use Rattle.table.specs.declared.Checked.the-variants.{Sound}
 use Rattle.table.specs.declared.Refusal.the-variants.{Outside}
-use Rattle.table.specs.Rows.{rows}
+use Rattle.table.specs.Rows.{rows, machineOf}
 use Rattle.table.specs.Check.{checkOf}
-use Rattle.table.proofs.TestLaws.{sound-valid}
+use Rattle.table.proofs.TestLaws.{sound-valid, sound-passes, passes-fails}
 use Rattle.trace.specs.Named.{stepsIn}
 use Rattle.trace.proofs.TraceLaws.{length-steps-in}
 use Rattle.replay.specs.declared.Replayed.{Replayed}
@@ -34,7 +37,10 @@ use Rattle.words.specs.Shows.{named, wordsLeft}
 use Rattle.verdict.proofs.StepLaws.{named-steps}
 use Rattle.verdict.proofs.JudgeLaws.{Tested, steady, turning}
 use Rattle.verdict.proofs.JudgeLaws as verdict
-use Rattle.cases.specs.Cases.{Case, replayed, judged, Holds}
+use Rattle.table_verdict.specs.declared.OnTable.{OnTable}
+use Rattle.table_verdict.specs.declared.OnTable.the-variants.{Strict, Split, Turning as TurningTable, Refused as RefusedTable}
+use Rattle.table_verdict.specs.OnTable.{tableTests}
+use Rattle.cases.specs.Cases.{Case, replayed, judged, tabled, Holds}
 
 -- the responses to the word that the stamps make
 unfoldable pub responsesOf : List Transition → ℕ → List ℕ → List Response
@@ -53,6 +59,20 @@ Judges a b Steady = b .u + b .d < a .d → b .v + b .d < a .d
 Judges a b (Turning k m) = (b .u + b .d < a .d) × (a .d ≤ b .v + b .d) × (k ≡ 1) × (m ≡ 2)
 Judges a b (Unjudged r) = ⊥
 
+-- of the traces from the initial state only this one has two steps, and it has no third
+abbrev pub OnlyTwo : Machine → List ℕ → Type 0
+OnlyTwo m trace = (l : List ℕ) (e k n : ℕ) → Trace (m .transitions) (m .initial) l e → k < n → n < length l → (l ≡ trace) × (k ≡ 0) × (n ≡ 1)
+
+-- what the criterion says of a machine that doesn't split: no walk turns, or one does, and a single trace has two steps
+abbrev pub Tells : Machine → OnTable → List ℕ → List ℕ → Type 0
+Tells m Strict trace stamps = ((i : ℕ) → WalkTurns m i → ⊥) × (trace ≡ []) × (stamps ≡ [])
+Tells m (TurningTable k n) trace stamps =
+    let tr : List Transition = steps (m .transitions) trace in
+    ((i : ℕ) × WalkTurns m i) × OnlyTwo m trace × (k ≡ 1) × (n ≡ 2)
+    × (stamps ≡ stampsOf (lateWord tr) ++ stampsOf (earlyWord tr 0 1)) × (length stamps ≡ 2 * length trace)
+Tells m (Split i j n) trace stamps = ⊥
+Tells m (RefusedTable r) trace stamps = ⊥
+
 -- what is left to compute of a case
 abbrev pub Computed : Case → Type 0
 Computed (replayed t trace start stamps answer order due) =
@@ -60,6 +80,8 @@ Computed (replayed t trace start stamps answer order due) =
 Computed (judged t trace answer) =
     let tr : List Transition = stepsIn t trace in
     Tested t trace × (tr ≡ at tr 0 ∷ at tr 1 ∷ []) × Judges (at tr 0) (at tr 1) answer
+Computed (tabled t answer trace stamps) =
+    (checkOf t ≡ Sound) × ((i j : ℕ) → SplitPair (machineOf t) i j → ⊥) × Tells (machineOf t) answer trace stamps
 
 -- the first step is outside
 pub at-once : {tr : List Transition} {gaps : List ℕ} → 1 ≤ length tr → (Fits 256 (at tr 0) (getD gaps 0 0) → ⊥) → FirstOutside tr gaps 1
@@ -124,8 +146,30 @@ module _ {t : Table} {trace : List ℕ} (h : Tested t trace) where
         (s, rw (first, second) (turning h s₀ room 0 1 s (rw same (c, λ i j x. let p = only-pair i j x in inr (omega arith, omega arith))) refl))
     judges (Unjudged r) c = absurd c
 
+-- every outcome that is allowed for a table is the one that its case expects
+module _ (t : Table) (sound : checkOf t ≡ Sound) (unsplit : (i j : ℕ) → SplitPair (machineOf t) i j → ⊥) where
+  abbrev m : Machine
+  m = machineOf t
+
+  valid : Valid m
+  valid = sound-valid t sound .1
+
+  told : (answer : OnTable) (trace stamps : List ℕ) → Tells m answer trace stamps → Holds (tabled t answer trace stamps)
+  told answer trace stamps c l₀ s₀ a b (RefusedTable r) l s x =
+      absurd (passes-fails (tableTests t l₀ s₀) r (sound-passes t (drop 3 (tableTests t l₀ s₀)) sound ((a, b), tt)) (x .0))
+  told answer trace stamps c l₀ s₀ a b (Split i j n) l s x = absurd (unsplit i j (x .1 .pair .pair))
+  told Strict trace stamps (none, el, es) l₀ s₀ a b Strict l s x = (refl, rw el (x .2), rw es (x .3))
+  told Strict trace stamps (none, el, es) l₀ s₀ a b (TurningTable k n) l s x =
+      let w = table-walk-law m valid .0 (x .1 .only .turns) in absurd (none (w .0) (w .1))
+  told (TurningTable k n) trace stamps c l₀ s₀ a b Strict l s x = absurd (x .1 .steady (table-walk-law m valid .1 (c .0)))
+  told (TurningTable k n) trace stamps (some, two, f, g, es, len) l₀ s₀ a b (TurningTable k' n') l s (_, y) =
+      let p = two (y .shown) (y .end) (y .k) (y .last) (y .path) (y .turns .ordered) (omega (arith, y .ends)) in
+      let tr : List Transition = steps (m .transitions) trace in
+      (cc, cc, cc (append-assoc (stampsOf (lateWord tr)) (stampsOf (earlyWord tr 0 1)) (drop (length stamps) s₀)))
+
 pub computed-holds : (c : Case) → Computed c → Holds c
 computed-holds (replayed t trace start stamps answer os ds) (h, e, c) = λ o₀ d₀ ho hd r o d x.
     replay.outcome-only t trace start stamps o₀ d₀ r answer o d _ _ x (replays h start stamps e answer os ds c o₀ d₀ ho hd)
 computed-holds (judged t trace answer) (h, is, c) = λ s₀ room r s x.
     let y = judges h is s₀ room answer c in verdict.outcome-only t trace s₀ r answer s (y .0) x (y .1) .0
+computed-holds (tabled t answer trace stamps) (sound, unsplit, c) = told t sound unsplit answer trace stamps c

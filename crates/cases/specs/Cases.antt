@@ -13,12 +13,17 @@ use Rattle.replay.specs.Play.{ReplayOutcome}
 use Rattle.verdict.specs.declared.OnTrace.{OnTrace}
 use Rattle.verdict.specs.declared.OnTrace.the-variants.{Steady, Turning}
 use Rattle.verdict.specs.OnTrace.{TraceOutcome}
+use Rattle.table_verdict.specs.declared.OnTable.{OnTable}
+use Rattle.table_verdict.specs.declared.OnTable.the-variants.{Strict, Turning as TurningTable}
+use Rattle.table_verdict.specs.OnTable.{TableOutcome}
 
 pub data Case : Type 0 where
   -- table, trace, start, stamps; the answer, and what stands first in the lent memory: the steps' order, their due times
   replayed : Table → List ℕ → ℕ → List ℕ → Replayed → List ℕ → List ℕ → Case
   -- table, trace; the answer
   judged : Table → List ℕ → OnTrace → Case
+  -- table; the answer, and what stands first in the lent memory: the shown trace, its stamps
+  tabled : Table → OnTable → List ℕ → List ℕ → Case
 
 -- whatever memory of enough places is lent, the call answers so, and past what it gives the memory is as it was
 abbrev pub Holds : Case → Type 0
@@ -26,6 +31,9 @@ Holds (replayed t trace start stamps answer order due) =
     (o₀ d₀ : List ℕ) → length trace ≤ length o₀ → length trace ≤ length d₀ → (r : Replayed) (o d : List ℕ)
     → ReplayOutcome t trace start stamps o₀ d₀ r o d → (r ≡ answer) × (o ≡ order ++ drop (length order) o₀) × (d ≡ due ++ drop (length due) d₀)
 Holds (judged t trace answer) = (s₀ : List ℕ) → 2 * length trace ≤ length s₀ → (r : OnTrace) (s : List ℕ) → TraceOutcome t trace s₀ r s → r ≡ answer
+Holds (tabled t answer trace stamps) =
+    (l₀ s₀ : List ℕ) → 270 ≤ length l₀ → 540 ≤ length s₀ → (r : OnTable) (l s : List ℕ)
+    → TableOutcome t l₀ s₀ r l s → (r ≡ answer) × (l ≡ trace ++ drop (length trace) l₀) × (s ≡ stamps ++ drop (length stamps) s₀)
 
 -- from a state to the next
 abbrev step : ℕ → ℕ → ℕ → ℕ → ℕ → Transition
@@ -42,6 +50,14 @@ two d = record { states = 3; initial = 0; transitions = step 0 0 1 2 d ∷ step 
 -- one step with guard (1,2]
 abbrev pub one : Machine
 one = record { states = 2; initial = 0; transitions = step 0 0 1 2 1 ∷ [] }
+
+-- "a table without transitions"
+abbrev pub bare : Machine
+bare = record { states = 1; initial = 0; transitions = [] }
+
+-- "only 0→1 (1,2] d 9 and 1→2 (3,4] d 5, initial 0": no trace has 4 steps, which is p
+abbrev pub short : Machine
+short = record { states = 3; initial = 0; transitions = step 0 1 1 2 9 ∷ step 1 2 3 4 5 ∷ [] }
 
 -- the trace of 001 from start stamp 0
 abbrev onSource : List ℕ → Replayed → List ℕ → List ℕ → Case
@@ -64,4 +80,6 @@ cases =
     onTwo 15 (Turning 1 2) ∷
     onTwo 16 Steady ∷
     replayed (tableOf one) (0 ∷ []) 4294967000 (100 ∷ []) Played (1 ∷ []) (652 ∷ []) ∷
+    tabled (tableOf bare) Strict [] [] ∷
+    tabled (tableOf short) (TurningTable 1 2) (0 ∷ 1 ∷ []) (512 ∷ 1536 ∷ 512 ∷ 1281 ∷ []) ∷
     []

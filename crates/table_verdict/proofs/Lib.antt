@@ -8,3 +8,4 @@ pub mod EndLaws
 pub mod BackLaws
 pub mod ShownLaws
 pub mod DecideLaws
+pub mod OnlyLaws

@@ -7,3 +7,4 @@ pub mod Walks
 pub mod Best
 pub mod Shown
 pub mod Decided
+pub mod Agree
