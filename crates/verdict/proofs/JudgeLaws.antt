@@ -30,7 +30,7 @@ use Rattle.verdict.specs.Pairs.{PairOf}
 use Rattle.verdict.proofs.StepLaws.{named-steps, named-ready}
 
 -- the tests after those of the table
-abbrev own : Table → List ℕ → List ℕ → List Test
+abbrev pub own : Table → List ℕ → List ℕ → List Test
 own t trace stamps = drop 3 (traceTests t trace stamps)
 
 pub no-table : (t : Table) (trace stamps : List ℕ) (r : Refusal) → checkOf t ≡ CheckRefused r → TraceOutcome t trace stamps (Refused r) stamps
@@ -92,7 +92,7 @@ module _ {t : Table} {trace : List ℕ} (h : Tested t trace) where
           }
 
 -- two pairs that are least are one
-pair-only : {tr : List Transition} {k m i j : ℕ} → LeastPair tr k m → LeastPair tr i j → (k ≡ i) × (m ≡ j)
+pub pair-only : {tr : List Transition} {k m i j : ℕ} → LeastPair tr k m → LeastPair tr i j → (k ≡ i) × (m ≡ j)
 pair-only {k = k} {m = m} {i = i} {j = j} p q =
     ⊎-elim (λ a. ⊎-elim (λ b. absurd (omega arith)) (λ b. absurd (omega arith)) (q .least k m (p .turns)))
     (λ a. ⊎-elim (λ b. absurd (omega arith)) (λ b. (omega arith, omega arith)) (q .least k m (p .turns)))

@@ -1,0 +1,18 @@
+// The verdicts on byte buffers: the table as a file, transition numbers of two bytes, stamps of four.
+use table::Checked;
+use verdict::OnTrace;
+ghost use Rattle.verdict_bytes.specs.Traces.{JudgeTraceBytesOutcome};
+
+mod traces;
+
+// The verdict on a trace, with the table as a file.
+pub fn judge_trace_bytes(file: &[u8], trace: &[u8], stamps: &mut [u8]) -> OnTrace
+    ensures { λ r. ⌜ JudgeTraceBytesOutcome (now (file .entry)) (now (trace .entry)) (now (stamps .entry)) r (now (stamps .exit)) ⌝ }
+{
+    let a = table::read_table(file);
+    let read = a.answer;
+    if let Checked::Refused(r) = read {
+        return OnTrace::Refused(r);
+    }
+    traces::judge_on(a.table, trace, stamps)
+}
