@@ -44,7 +44,7 @@
     VARIANT(GAP_V_REFUSED, "refuses a gap of exactly v") \
     VARIANT(STEP_FROM_0, "counts steps from 0 in replay") \
     VARIANT(K_FROM_0, "counts K and M from 0") \
-    VARIANT(STEPS_NAMED, "names the steps in a trace verdict") \
+    VARIANT(STEPS_UNNAMED, "names no steps in a trace verdict") \
     VARIANT(EARLY_FROM_K, "begins the early steps of the early word at k") \
     VARIANT(EARLY_AFTER_M, "goes on with early steps after m") \
     VARIANT(EARLY_AT_FIXED_PLACE, "writes the early word to a fixed place") \

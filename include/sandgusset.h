@@ -79,7 +79,7 @@ extern "C" {
 #define SANDGUSSET_NO_ROOM 8        /* first: 0 */
 #define SANDGUSSET_BAD_GAP 9        /* first: the step, counted from 1 */
 #define SANDGUSSET_SPLIT 256        /* first, second: transition numbers I and J; steps: length of the traces */
-#define SANDGUSSET_TURNING 257      /* first, second: step numbers K and M; steps: see each call */
+#define SANDGUSSET_TURNING 257      /* first, second: step numbers K and M; steps: length of the trace */
 
 /* Limits. */
 #define SANDGUSSET_MAX_FILE 4620        /* bytes of the longest table file */
@@ -114,7 +114,7 @@ uint64_t sandgusset_judge(const uint8_t *file, size_t file_len,
  * Lend two stamp places per step (8 bytes per step), whatever the trace is.
  *
  * steady   status 0. Nothing is written.
- * turning  status 257; first K, second M (least K, then least M, counted from 1), steps 0. With n steps in the trace,
+ * turning  status 257; first K, second M (least K, then least M, counted from 1), steps n, the number of steps in the trace:
  *          stamp places 0 to n-1 hold the late word and places n to 2n-1 the early word, both from stamp 0 and made as
  *          above. */
 uint64_t sandgusset_judge_trace(const uint8_t *file, size_t file_len,

@@ -476,7 +476,7 @@ def law(call, start, bufs):
             if other is not None and other[0] != pair:
                 raise Disagreement("a trace turns by sums and by words")
         if pair is not None:
-            want.answer = pack(TURNING, *pair)
+            want.answer = pack(TURNING, *pair, n)
             stamps = stamps_of(late_word(rows)) + stamps_of(early_word(rows, *pair))
             want.contents[2] = put(want.contents[2], struct.pack("<%dI" % (2 * n), *stamps))
         return want
@@ -1228,7 +1228,7 @@ def fixed_cases():
     judged("whole case: turning 1 3", whole,
            exactly(pack(TURNING, 1, 3, 3), trace=u16(0, 1, 2), stamps=u32(5120, 10240, 14080, 5120, 8961, 11522)))
     traced("whole case: the trace turns 1 3", whole, (0, 1, 2),
-           exactly(pack(TURNING, 1, 3), stamps=u32(5120, 10240, 14080, 5120, 8961, 11522)))
+           exactly(pack(TURNING, 1, 3, 3), stamps=u32(5120, 10240, 14080, 5120, 8961, 11522)))
     rewritten("whole case: the file is written as it was read", file, pack(0, 66))
 
     # --- document 01: both sides of each limit
@@ -1240,7 +1240,7 @@ def fixed_cases():
     for difference, turns in ((-2, 0), (0, 0), (3, 0), (6, 0), (4, 1), (5, 1)):
         two = Table(3, 0, [(0, 0, 1, 1, 2, 7, 20 + difference), (1, 0, 2, 2, 3, 5, 20)])
         name = "second guard (3,5], D = %d: %s" % (difference, "turning" if turns else "steady")
-        traced(name, two, (0, 1), pack(TURNING, 1, 2) if turns else steady)
+        traced(name, two, (0, 1), pack(TURNING, 1, 2, 2) if turns else steady)
         judged(name + " (table)", two, pack(TURNING, 1, 2, 2) if turns else strict)
     one = Table(1, 0, [(0, 0, 1, 0, 1, 2, 1)])
     replayed("start 4,294,967,000, stamp 100: gap 396", one, (0,), (100,), 4294967000,
@@ -1358,7 +1358,7 @@ def fixed_cases():
         for size in (0, 4, 12, 20, 21, 22, 23, 24, 25, 27, 28, 31):
             add("%s trace of 3 steps with %d bytes of room" % (what, size), JUDGE_TRACE, write_file(table), u16(*trace),
                 rng.randbytes(size),
-                pinned=pack(8) if size < 24 else steady if what == "steady" else pack(TURNING, 1, 3))
+                pinned=pack(8) if size < 24 else steady if what == "steady" else pack(TURNING, 1, 3, 3))
     for order, due in ((6, 12), (5, 12), (4, 12), (6, 11), (6, 8), (0, 12), (6, 0), (0, 0), (7, 15), (8, 16), (9, 13)):
         add("replay of 3 steps with %d and %d bytes of room" % (order, due), REPLAY, file, u16(0, 1, 2),
             u32(2560, 6912, 10496), rng.randbytes(order), rng.randbytes(due),
@@ -1390,7 +1390,7 @@ def fixed_cases():
         add("a trace %s: 6 (replay)" % name, REPLAY, file, trace, u32(2560, 6912, 10496), rng.randbytes(6),
             rng.randbytes(12), pinned=pack(6))
         add("a trace %s, no stamps, no room: 6 (replay)" % name, REPLAY, file, trace, b"", b"", b"", pinned=pack(6))
-    traced("a trace from a state that can't be reached", Table(3, 2, dead_end), (0, 1), pack(TURNING, 1, 2))
+    traced("a trace from a state that can't be reached", Table(3, 2, dead_end), (0, 1), pack(TURNING, 1, 2, 2))
     empty = write_file(Table(1, 0, []))
     add("a trace in a table without transitions: 6", JUDGE_TRACE, empty, u16(0), rng.randbytes(8), pinned=pack(6))
     for size in (0, 1, 4, 8, 10, 11, 13, 14, 15, 16, 24):
@@ -1442,23 +1442,23 @@ def fixed_cases():
     chain = Table(5, 0, [(0, 0, 1, 1, 1, 2, 1), (1, 0, 1, 2, 1, 2, 20), (2, 0, 1, 3, 3, 30, 10),
                          (3, 0, 1, 4, 2, 9, 10)])
     traced("the early word takes v before k and after m", chain, (0, 1, 2, 3),
-           exactly(pack(TURNING, 2, 3), stamps=u32(512, 1024, 8704, 11008, 512, 1024, 1793, 4097)))
+           exactly(pack(TURNING, 2, 3, 4), stamps=u32(512, 1024, 8704, 11008, 512, 1024, 1793, 4097)))
     traced("least k, then least m", Table(1, 0, [(0, 0, 1, 0, 1, 9, 9), (0, 1, 1, 0, 1, 9, 5), (0, 2, 1, 0, 1, 9, 2)]),
-           (2, 0, 1, 2), pack(TURNING, 2, 3))
+           (2, 0, 1, 2), pack(TURNING, 2, 3, 4))
     for name, guard, ds, turns in (("D = U", (2, 3), (9, 7, 5), 0), ("D = U + 1", (2, 3), (10, 8, 5), 1),
                                    ("D = V", (3, 4), (12, 12, 5), 1), ("D = V + 1", (3, 4), (13, 13, 5), 0)):
         three = Table(1, 0, [(0, 0, 1, 0, 2, 3, ds[0]), (0, 1, 1, 0, 2, 3, ds[1]), (0, 2, 1, 0, *guard, ds[2])])
-        traced("%s over two steps" % name, three, (0, 1, 2), pack(TURNING, 1, 3) if turns else steady)
+        traced("%s over two steps" % name, three, (0, 1, 2), pack(TURNING, 1, 3, 3) if turns else steady)
     long_pair = Table(1, 0, [(0, 0, 1, 0, 1, 2, 240), (0, 1, 1, 0, 1, 2, 1)])
     for n in (1, 117, 118, 119, 236, 237, 238, 239):
         between = n - 1
         traced("D = 239 over %d steps of (1,2]" % n, Table(1, 0, [(0, 0, 1, 0, 1, 2, 240), (0, 1, 1, 0, 1, 2, 1)]),
                [0] * 1 + [0] * between + [1])
-    traced("k is step 1, m is step 120 at the least", long_pair, [0] * 120 + [1], pack(TURNING, 1, 121))
+    traced("k is step 1, m is step 120 at the least", long_pair, [0] * 120 + [1], pack(TURNING, 1, 121, 121))
     traced("V = 238 is too little for D = 239", long_pair, [0] * 119 + [1], steady)
-    traced("the pair stands at the end of 512 steps", long_pair, [1] * 391 + [0] * 120 + [1], pack(TURNING, 392, 512))
+    traced("the pair stands at the end of 512 steps", long_pair, [1] * 391 + [0] * 120 + [1], pack(TURNING, 392, 512, 512))
     traced("like outputs don't excuse turning", Table(2, 0, [(0, 0, 9, 1, 1, 2, 9), (1, 0, 9, 1, 1, 7, 2)]), (0, 1),
-           pack(TURNING, 1, 2))
+           pack(TURNING, 1, 2, 2))
 
     # --- table verdicts
     for guard, verdict in (((238, 239), pack(TURNING, 1, 2, 2)), ((239, 240), strict), ((237, 238), strict),
@@ -1531,7 +1531,7 @@ def fixed_cases():
     add("rooms of 2^32 + 1 bytes", JUDGE, file, Buf(rng.randbytes(540), big + 1), Buf(rng.randbytes(2160), big + 1),
         pinned=pack(TURNING, 1, 3, 3))
     add("a room of 2^32 + 1 bytes for a trace verdict", JUDGE_TRACE, file, three, Buf(rng.randbytes(24), big + 1),
-        pinned=pack(TURNING, 1, 3))
+        pinned=pack(TURNING, 1, 3, 3))
     add("a room of 2^32 + 1 bytes for a file", REWRITE, file, Buf(rng.randbytes(66), big + 1), pinned=pack(0, 66))
     add("rooms of 2^32 bytes for replay", REPLAY, file, three, stamps, Buf(rng.randbytes(6), big),
         Buf(rng.randbytes(12), big), pinned=pack(0))
