@@ -21,7 +21,7 @@ use Rattle.table_verdict.specs.Agree.{shownTrace, atStep, Agree, agree-r
 
 module _ {m : Machine} where
   -- two pairs that are least are one
-  pair-only : {i j x y : ℕ} → LeastSplit m i j → LeastSplit m x y → (i ≡ x) × (j ≡ y)
+  pub pair-only : {i j x y : ℕ} → LeastSplit m i j → LeastSplit m x y → (i ≡ x) × (j ≡ y)
   pair-only {i} {j} {x} {y} p q =
       ⊎-elim (λ a. ⊎-elim (λ b. absurd (omega arith)) (λ b. absurd (omega arith)) (q .least i j (p .pair)))
       (λ a. ⊎-elim (λ b. absurd (omega arith)) (λ b. (omega arith, omega arith)) (q .least i j (p .pair)))
@@ -34,7 +34,7 @@ module _ {m : Machine} where
         ap (take n) (a .traced) ∙ take-at (a .way ++ (i ∷ [])) (drop n trace₀) n (length-append (a .way) (i ∷ []) ∙ sym (a .number))
 
     -- two splits that show one trace
-    split-same : {i j n l : ℕ} {trace stamps trace' stamps' : List ℕ} → AnswersSplit m trace₀ stamps₀ i j n trace stamps
+    pub split-same : {i j n l : ℕ} {trace stamps trace' stamps' : List ℕ} → AnswersSplit m trace₀ stamps₀ i j n trace stamps
         → AnswersSplit m trace₀ stamps₀ i j l trace' stamps' → take n trace ≡ take l trace' → (n ≡ l) × (trace ≡ trace') × (stamps ≡ stamps')
     split-same {i} {j} {n} {l} a b e =
         let f : a .way ++ (i ∷ []) ≡ b .way ++ (i ∷ []) = sym (split-shown a) ∙ e ∙ split-shown b in
@@ -52,15 +52,15 @@ module _ {m : Machine} where
     turn-from : {k n : ℕ} {trace stamps : List ℕ} (a : AnswersTurning m trace₀ stamps₀ k n trace stamps) → TurnsFrom m (getD (a .shown) (a .k) 0)
     turn-from a = record { trace = a .shown; end = a .end; path = a .path; k = a .k; later = a .last; here = refl; turns = a .turns }
 
-    turn-only : {k n x l : ℕ} {trace stamps trace' stamps' : List ℕ} (a : AnswersTurning m trace₀ stamps₀ k n trace stamps)
+    pub turn-only : {k n x l : ℕ} {trace stamps trace' stamps' : List ℕ} (a : AnswersTurning m trace₀ stamps₀ k n trace stamps)
         (b : AnswersTurning m trace₀ stamps₀ x l trace' stamps') → getD (a .shown) (a .k) 0 ≡ getD (b .shown) (b .k) 0
     turn-only a b = omega (arith, a .lowest _ (turn-from b), b .lowest _ (turn-from a))
 
-    turn-step : {k n : ℕ} {trace stamps : List ℕ} (a : AnswersTurning m trace₀ stamps₀ k n trace stamps)
+    pub turn-step : {k n : ℕ} {trace stamps : List ℕ} (a : AnswersTurning m trace₀ stamps₀ k n trace stamps)
         → atStep (take n trace) k ≡ getD (a .shown) (a .k) 0
     turn-step {k} a = let z : k - 1 ≡ a .k = omega (arith, a .first-step) in rw (turn-shown a, z)
 
-    turn-by : {k n : ℕ} {trace stamps : List ℕ} → AnswersTurning m trace₀ stamps₀ k n trace stamps → ByTrace (take n trace) k n
+    pub turn-by : {k n : ℕ} {trace stamps : List ℕ} → AnswersTurning m trace₀ stamps₀ k n trace stamps → ByTrace (take n trace) k n
     turn-by {k} a =
         let z : k - 1 ≡ a .k = omega (arith, a .first-step) in
         rw (turn-shown a) (record {
@@ -71,7 +71,7 @@ module _ {m : Machine} where
         })
 
     -- two turnings that show one trace
-    turn-same : {k n x l : ℕ} {trace stamps trace' stamps' : List ℕ} → AnswersTurning m trace₀ stamps₀ k n trace stamps
+    pub turn-same : {k n x l : ℕ} {trace stamps trace' stamps' : List ℕ} → AnswersTurning m trace₀ stamps₀ k n trace stamps
         → AnswersTurning m trace₀ stamps₀ x l trace' stamps' → (k ≡ x) × (n ≡ l) → take n trace ≡ take l trace' → (trace ≡ trace') × (stamps ≡ stamps')
     turn-same a b (p, q) e =
         let f : a .shown ≡ b .shown = sym (turn-shown a) ∙ e ∙ turn-shown b in

@@ -1,2 +1,4 @@
 pub mod TraceLaws
 pub mod TraceOnly
+pub mod TableLaws
+pub mod TableOnly
