@@ -47,3 +47,9 @@ pub on-file : (s : Scan) (P P' : Refusal → Type 0) (Q Q' : Machine → Type 0)
     → ((m : Machine) → Q m → Q' m → C) → onFile s P Q → onFile s P' Q' → C
 on-file (machine m) P P' Q Q' f g a b = g m a b
 on-file (stopped r) P P' Q Q' f g a b = f r a b
+
+-- one fact of a file, with what the reader answered
+pub of-file : (s : Scan) (P : Refusal → Type 0) (Q : Machine → Type 0) {C : Type 0} → ((r : Refusal) → s ≡ stopped r → P r → C)
+    → ((m : Machine) → s ≡ machine m → Q m → C) → onFile s P Q → C
+of-file (machine m) P Q f g a = g m refl a
+of-file (stopped r) P Q f g a = f r refl a

@@ -1,0 +1,3 @@
+pub mod PackLaws
+pub mod FitLaws
+pub mod OnlyLaws

@@ -1,0 +1,64 @@
+// An answer as one number.
+use replay::Replayed;
+use table::Refusal;
+use table::Written;
+use table_verdict::OnTable;
+use verdict::OnTrace;
+ghost use mathlib.Core.Path.{_≡_};
+ghost use Rattle.sandgusset.specs.Packed.{fields, packed, refusedFields, tableFields, traceFields, replayFields, rewriteFields};
+
+// Four fields of 16 bits, the lowest first.
+fn pack(status: u16, first: usize, second: usize, steps: usize) -> u64
+    ensures { λ r. ⌜ r ≡ packed (fields status first second steps) ⌝ }
+{
+    let a = (first % 65536) as u64;
+    let b = (second % 65536) as u64;
+    let c = (steps % 65536) as u64;
+    (status as u64) + (a + (b + c * 65536) * 65536) * 65536
+}
+
+fn refused(r: Refusal) -> u64
+    ensures { λ x. ⌜ x ≡ packed (refusedFields r) ⌝ }
+{
+    pack(table::number(r), table::place(r), 0, 0)
+}
+
+pub(crate) fn on_table(a: OnTable) -> u64
+    ensures { λ r. ⌜ r ≡ packed (tableFields a) ⌝ }
+{
+    match a {
+        OnTable::Strict => pack(0, 0, 0, 0),
+        OnTable::Split(i, j, n) => pack(256, i, j, n),
+        OnTable::Turning(k, m) => pack(257, k, m, m),
+        OnTable::Refused(r) => refused(r),
+    }
+}
+
+// n: the steps of the trace that was handed in.
+pub(crate) fn on_trace(a: OnTrace, n: usize) -> u64
+    ensures { λ r. ⌜ r ≡ packed (traceFields n a) ⌝ }
+{
+    match a {
+        OnTrace::Steady => pack(0, 0, 0, 0),
+        OnTrace::Turning(k, m) => pack(257, k, m, n),
+        OnTrace::Refused(r) => refused(r),
+    }
+}
+
+pub(crate) fn replayed(a: Replayed) -> u64
+    ensures { λ r. ⌜ r ≡ packed (replayFields a) ⌝ }
+{
+    match a {
+        Replayed::Played => pack(0, 0, 0, 0),
+        Replayed::Refused(r) => refused(r),
+    }
+}
+
+pub(crate) fn written(a: Written) -> u64
+    ensures { λ r. ⌜ r ≡ packed (rewriteFields a) ⌝ }
+{
+    match a {
+        Written::Bytes(n) => pack(0, n, 0, 0),
+        Written::Refused(r) => refused(r),
+    }
+}

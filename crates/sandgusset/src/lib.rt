@@ -1,0 +1,47 @@
+// What a C host links (include/sandgusset.h): the byte calls, each answer packed into one number.
+ghost use Rattle.sandgusset.specs.Exports.{JudgeAnswer, JudgeTraceAnswer, ReplayAnswer, RewriteAnswer};
+
+mod answers;
+
+// The verdict on a table file.
+#[no_mangle]
+pub extern "C" fn sandgusset_judge(file: &[u8], trace: &mut [u8], stamps: &mut [u8]) -> u64
+    ensures { λ r. ⌜ JudgeAnswer (now (file .entry)) (now (trace .entry)) (now (stamps .entry)) r (now (trace .exit)) (now (stamps .exit)) ⌝ }
+{
+    let a = verdict_bytes::judge_table_bytes(file, trace, stamps);
+    answers::on_table(a)
+}
+
+// The verdict on a trace.
+#[no_mangle]
+pub extern "C" fn sandgusset_judge_trace(file: &[u8], trace: &[u8], stamps: &mut [u8]) -> u64
+    ensures { λ r. ⌜ JudgeTraceAnswer (now (file .entry)) (now (trace .entry)) (now (stamps .entry)) r (now (stamps .exit)) ⌝ }
+{
+    let a = verdict_bytes::judge_trace_bytes(file, trace, stamps);
+    answers::on_trace(a, trace.len() / 2)
+}
+
+// Replay of a timed word on a trace.
+#[no_mangle]
+pub extern "C" fn sandgusset_replay(
+    file: &[u8],
+    trace: &[u8],
+    start: u32,
+    stamps: &[u8],
+    order: &mut [u8],
+    due: &mut [u8],
+) -> u64
+    ensures { λ r. ⌜ ReplayAnswer (now (file .entry)) (now (trace .entry)) start (now (stamps .entry)) (now (order .entry)) (now (due .entry)) r (now (order .exit)) (now (due .exit)) ⌝ }
+{
+    let a = on_bytes::replay_bytes(file, trace, start, stamps, order, due);
+    answers::replayed(a)
+}
+
+// Reads a table file and writes it.
+#[no_mangle]
+pub extern "C" fn sandgusset_rewrite(file: &[u8], out: &mut [u8]) -> u64
+    ensures { λ r. ⌜ RewriteAnswer (now (file .entry)) (now (out .entry)) r (now (out .exit)) ⌝ }
+{
+    let a = on_bytes::rewrite_bytes(file, out);
+    answers::written(a)
+}
