@@ -1,5 +1,5 @@
 -- The laws of the lists of specs/Lists. Nothing here knows what a transition is.
-use mathlib.Core.Path.{_≡_, refl, ap, sym}
+use mathlib.Core.Path.{_≡_, refl, ap, sym, _∙_}
 use mathlib.Core.Logic.{_⊎_, inl, inr, ⊎-elim, _↔_}
 use mathlib.Core.List.{List, [], _∷_, _++_, map}
 use Prim.Native.Nat.{ℕ, zero, suc, _+_, _*_, _-_, _≤_, _<_}
@@ -181,6 +181,18 @@ module _ {A B : Type 0} where
   in-map f y (a ∷ l) (inl e) = (a, inl refl, e)
   in-map f y (a ∷ l) (inr m) = let r : _ = in-map f y l m in (r .0, inr (r .1), r .2)
 
+  pub in-image : (f : A → B) (x : A) (l : List A) → In x l → In (f x) (map f l)
+  in-image f x (a ∷ l) (inl e) = inl (ap f e)
+  in-image f x (a ∷ l) (inr m) = inr (in-image f x l m)
+
+  -- where every member is made by f, the list is
+  pub map-whole : (f : A → B) (l : List B) → ((y : B) → In y l → (x : A) × (y ≡ f x)) → (o : List A) × (l ≡ map f o)
+  map-whole f [] h = ([], refl)
+  map-whole f (y ∷ l) h =
+      let x : (x : A) × (y ≡ f x) = h y (inl refl) in
+      let r : (o : List A) × (l ≡ map f o) = map-whole f l (λ z m. h z (inr m)) in
+      (x .0 ∷ r .0, cc (x .1, r .1))
+
   pub take-map : (f : A → B) (n : ℕ) (l : List A) → take n (map f l) ≡ map f (take n l)
   take-map f zero l = refl
   take-map f (suc n) [] = refl
@@ -193,10 +205,6 @@ module _ {A B : Type 0} where
 
   pub between-map : (f : A → B) (k m : ℕ) (l : List A) → between k m (map f l) ≡ map f (between k m l)
   between-map f k m l = rw (drop-map f (suc k) l, take-map f (m - k) (drop (suc k) l))
-
-  pub append-map : (f : A → B) (a b : List A) → map f (a ++ b) ≡ map f a ++ map f b
-  append-map f [] b = refl
-  append-map f (x ∷ a) b = ap (λ (r : List B). f x ∷ r) (append-map f a b)
 
   pub getD-map : (f : A → B) (x : A) (y : B) (l : List A) (j : ℕ) → j < length l → getD (map f l) j y ≡ f (getD l j x)
   getD-map f x y [] j h = absurd (omega arith)
@@ -242,6 +250,11 @@ sorted-map R Q f (i ∷ l) h s = (
   sorted-map R Q f l (λ a b x y. h a b (inr x) (inr y)) (s .1),
 )
 
+-- and back
+pub sorted-back : (R Q : ℕ → ℕ → Type 0) (f : ℕ → ℕ) (l : List ℕ) → ((i j : ℕ) → Q (f i) (f j) → R i j) → Sorted Q (map f l) → Sorted R l
+sorted-back R Q f [] h s = tt
+sorted-back R Q f (i ∷ l) h s = (λ j m. h i j (s .0 (f j) (in-image f j l m)), sorted-back R Q f l h (s .1))
+
 module _ (R : ℕ → ℕ → Type 0) where
   pub sorted-append : (a b : List ℕ) → Sorted R (a ++ b) ↔ (Sorted R a × Sorted R b × ((i j : ℕ) → In i a → In j b → R i j))
   sorted-append [] b = (λ s. (tt, s, λ i j m n. absurd m), λ t. t .1)
@@ -256,6 +269,13 @@ module _ (R : ℕ → ℕ → Type 0) where
       sorted-append a b .1 (t .0 .1, t .1, λ i j m. t .2 i j (inr m)),
     ),
   )
+
+  -- of two members one stands before the other
+  pub sorted-apart : (l : List ℕ) → Sorted R l → (i j : ℕ) → In i l → In j l → (i ≡ j → ⊥) → R i j ⊎ R j i
+  sorted-apart (x ∷ l) s i j (inl a) (inl b) n = absurd (n (a ∙ sym b))
+  sorted-apart (x ∷ l) s i j (inl a) (inr m) n = inl (rw a (s .0 j m))
+  sorted-apart (x ∷ l) s i j (inr m) (inl b) n = inr (rw b (s .0 i m))
+  sorted-apart (x ∷ l) s i j (inr m) (inr k) n = sorted-apart l (s .1) i j m k n
 
   -- to and from the form by index
   pub sorted-at : (l : List ℕ) → Sorted R l → (i j : ℕ) → i < j → j < length l → R (getD l i 0) (getD l j 0)

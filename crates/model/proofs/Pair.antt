@@ -17,7 +17,7 @@ use Rattle.model.specs.Verdict.{Overtakes, Keeps, Turns, Turning}
 use Rattle.model.proofs.Lists.{total-append, total-between, both-between}
 use Rattle.model.proofs.Words.{late-activates, early-activates, late-kept, early-turned, words-show}
 
--- gaps that fit, added up: with the shown words, the only proofs that open a guard
+-- gaps that fit, added up. Beside these, `meet` (Split), the proofs that the shown words fit and closed examples open a guard.
 pub gaps-low : {q : ℕ} {l : List Transition} {r : List Symbol} → Both (Takes q) l r → total (λ t. t .u) l * q + length l ≤ total (λ s. s .gap) r
 gaps-low both-nil = omega arith
 gaps-low (both-cons f a) = omega (arith, gaps-low a)

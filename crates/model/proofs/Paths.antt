@@ -1,13 +1,13 @@
 -- Traces: joined, cut, and what they keep of a table.
 use mathlib.Core.Path.{_≡_, refl}
-use mathlib.Core.List.{List, [], _∷_, _++_}
+use mathlib.Core.List.{List, [], _∷_, _++_, map-append}
 use Prim.Native.Nat.{ℕ, _<_}
 use native.Mathlib.Omega.{arith}
 use lib.ListN.{length, getD, take, drop, length-map, take-append-drop}
 use Rattle.model.specs.Lists.{All, all-nil, all-cons}
 use Rattle.model.specs.Table.{Transition, InRange, none, at}
 use Rattle.model.specs.Trace.{Trace, steps}
-use Rattle.model.proofs.Lists.{all-at, all-map, all-image, append-map, getD-map}
+use Rattle.model.proofs.Lists.{all-at, all-map, all-image, getD-map}
 
 module _ (ts : List Transition) where
   pub trace-append : (s m e : ℕ) (a b : List ℕ) → Trace ts s a m → Trace ts m b e → Trace ts s (a ++ b) e
@@ -25,11 +25,11 @@ module _ (ts : List Transition) where
 
   pub steps-append : (a b : List ℕ) → steps ts (a ++ b) ≡ steps ts a ++ steps ts b
   unfolding steps
-  steps-append a b = append-map (at ts) a b
+  steps-append a b = map-append (at ts) a b
 
   pub steps-last : (l : List ℕ) (i : ℕ) → steps ts (l ++ (i ∷ [])) ≡ steps ts l ++ (at ts i ∷ [])
   unfolding steps
-  steps-last l i = append-map (at ts) l (i ∷ [])
+  steps-last l i = map-append (at ts) l (i ∷ [])
 
   pub length-steps : (l : List ℕ) → length (steps ts l) ≡ length l
   unfolding steps

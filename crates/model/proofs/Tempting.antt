@@ -14,13 +14,13 @@ use Rattle.model.specs.Verdict.{Overtakes, Splits, TableTurns, Strict}
 use Rattle.model.proofs.Lists.{total-between, both-between, each-all, beside-both}
 use Rattle.model.proofs.Pair.{gaps-low, before-later, overtakes-needs, overtakes-law, turning-law}
 
--- a step between state 0 and itself, by its numbers
-abbrev step : ℕ → ℕ → ℕ → Transition
-step u v d = record { from = 0; input = 0; output = 0; to = 0; u = u; v = v; d = d }
+-- a step between state 0 and itself: its output, u, v and d
+abbrev step : ℕ → ℕ → ℕ → ℕ → Transition
+step o u v d = record { from = 0; input = 0; output = o; to = 0; u = u; v = v; d = d }
 
 -- "Whole ticks are enough": here the last two gaps are above 1, so together 4 in whole ticks, and less than 3 in thirds.
 abbrev pub ticks : List Transition
-ticks = step 1 2 4 ∷ step 1 3 1 ∷ step 1 3 1 ∷ []
+ticks = step 1 1 2 4 ∷ step 2 1 3 1 ∷ step 3 1 3 1 ∷ []
 
 ticks-good : All (InRange 1) ticks
 ticks-good = each-all ticks (omega arith)
@@ -38,7 +38,7 @@ but-parts = overtakes-law ticks-good 0 2 (omega arith) (omega arith) .1 (omega a
 
 -- "Neighbours are enough": here only the first and the last step turn.
 abbrev pub apart : List Transition
-apart = step 5 20 40 ∷ step 15 20 30 ∷ step 10 15 10 ∷ []
+apart = step 1 5 20 40 ∷ step 2 15 20 30 ∷ step 3 10 15 10 ∷ []
 
 pub not-neighbours : Criterion apart 0 2 × (Criterion apart 0 1 → ⊥) × (Criterion apart 1 2 → ⊥)
 not-neighbours = (record { ordered = omega arith; inside = omega arith; above = omega arith; below = omega arith }, λ c. omega arith, λ c. omega arith)
@@ -48,14 +48,14 @@ pub equal-steady : {tr : List Transition} (k m : ℕ) → k < m → sumU tr k m 
 equal-steady k m h e o = omega (arith, overtakes-needs k m h o)
 
 -- "Every transition counts": here state 1 has a split pair and a turning pair, and nothing leads there from state 0.
-abbrev loop : ℕ → Transition
-loop d = record { from = 1; input = 0; output = 0; to = 1; u = 1; v = 9; d = d }
+abbrev loop : ℕ → ℕ → Transition
+loop o d = record { from = 1; input = 0; output = o; to = 1; u = 1; v = 9; d = d }
 
 abbrev pub island : ℕ → Machine
-island s = record { states = 2; initial = s; transitions = loop 5 ∷ loop 1 ∷ [] }
+island s = record { states = 2; initial = s; transitions = loop 1 5 ∷ loop 2 1 ∷ [] }
 
-loops-good : All (InRange 2) (loop 5 ∷ loop 1 ∷ [])
-loops-good = each-all (loop 5 ∷ loop 1 ∷ []) (omega arith)
+loops-good : All (InRange 2) (loop 1 5 ∷ loop 2 1 ∷ [])
+loops-good = each-all (loop 1 5 ∷ loop 2 1 ∷ []) (omega arith)
 
 pub island-valid : (s : ℕ) → s < 2 → Valid (island s)
 island-valid s h = record {

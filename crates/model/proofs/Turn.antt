@@ -1,4 +1,4 @@
--- Theorem 5: a transition is step k of a turning pair exactly if a walk from it, in the table, meets the criterion.
+-- A transition is step k of a turning pair exactly if a walk from it, in the table, meets the criterion.
 use mathlib.Core.Path.{_≡_, refl, ap, sym, _∙_}
 use mathlib.Core.Logic.{_↔_, dite}
 use mathlib.Core.List.{List, [], _∷_, _++_}
@@ -106,7 +106,7 @@ module _ (m : Machine) where
           below = rw (between-steps ts k (k + r) walked, b, an, ak) (t .below);
         }
 
-  -- a turn that is shown: a trace in which two words order the first step i and the last step in opposite ways
+  -- a turn that is shown: a trace in which two words order step k, the first that is transition i, and the last step in opposite ways
   pub record ShownTurn (i : ℕ) : Type 0 where
     pub trace : List ℕ
     pub end : ℕ

@@ -1,6 +1,6 @@
 -- Stamps: "32-bit counts of 1/256 tick on a counter that wraps".
 use mathlib.Core.List.{List, [], _∷_}
-use Prim.Native.Nat.{ℕ, _+_, _-_, _*_, _%_, _^_, _≤_, _<_}
+use Prim.Native.Nat.{ℕ, _+_, _-_, _%_, _^_}
 use native.Mathlib.Omega.{arith}
 use Rattle.model.specs.Table.{Transition}
 use Rattle.model.specs.Word.{Word, Symbol}

@@ -1,7 +1,7 @@
 -- What is asked of a trace and of a table, by words over any fraction and traces of any length.
 use mathlib.Core.Path.{_≡_}
 use mathlib.Core.List.{List}
-use Prim.Native.Nat.{ℕ, _≤_, _<_, min, max}
+use Prim.Native.Nat.{ℕ, _<_, min, max}
 use lib.ListN.{length, getD}
 use Rattle.model.specs.Table.{Transition, Machine, at}
 use Rattle.model.specs.Word.{Word, Activates}
@@ -27,7 +27,7 @@ pub record Turns (tr : List Transition) (k m : ℕ) : Type 0 where
   pub early : Overtakes tr k m
   pub late : Keeps tr k m
 
--- "A trace is called turning exactly if two activating timings give different orders."
+-- a trace is called turning exactly if two activating timings give different orders
 pub record Turning (tr : List Transition) : Type 0 where
   pub one : Word
   pub two : Word
@@ -35,7 +35,7 @@ pub record Turning (tr : List Transition) : Type 0 where
   pub act-two : Activates tr two
   pub opposed : Opposed tr one two
 
--- "some word activates two traces" from the initial state
+-- some word activates two traces from the initial state
 pub record Splits (m : Machine) : Type 0 where
   pub word : Word
   pub one : List ℕ
@@ -48,7 +48,7 @@ pub record Splits (m : Machine) : Type 0 where
   pub act-one : Activates (steps (m .transitions) one) word
   pub act-two : Activates (steps (m .transitions) two) word
 
--- "some trace has two orders", from the initial state
+-- some trace from the initial state has two orders
 pub record TableTurns (m : Machine) : Type 0 where
   pub trace : List ℕ
   pub end : ℕ
@@ -65,12 +65,12 @@ pub record TurnsFrom (m : Machine) (i : ℕ) : Type 0 where
   pub here : getD trace k 0 ≡ i
   pub turns : Turns (steps (m .transitions) trace) k later
 
--- "`strict` exactly if no timed word activates two traces and no trace gives two orders"
+-- strict exactly if no timed word activates two traces and no trace gives two orders
 pub record Strict (m : Machine) : Type 0 where
   pub unsplit : Splits m → ⊥
   pub steady : TableTurns m → ⊥
 
--- "`turning` exactly if there is no split but some trace has two orders"
+-- turning exactly if there is no split but some trace has two orders
 pub record OnlyTurns (m : Machine) : Type 0 where
   pub unsplit : Splits m → ⊥
   pub turns : TableTurns m

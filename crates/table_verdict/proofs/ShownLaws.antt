@@ -2,7 +2,7 @@
 use mathlib.Core.Path.{_≡_, refl, sym, ap, _∙_}
 use mathlib.Core.Bool.{Bool, true, false, cond}
 use mathlib.Core.Logic.{dite}
-use mathlib.Core.List.{List, [], _∷_, _++_, map, append-assoc}
+use mathlib.Core.List.{List, [], _∷_, _++_, map, map-append, append-assoc}
 use Prim.Native.Nat.{ℕ, suc, _+_, _*_, _-_, _≤_, _<_, min}
 use native.Mathlib.Decide.{decLt}
 use native.Mathlib.Numerals.{add-one}
@@ -16,7 +16,7 @@ use Rattle.model.specs.Trace.{Trace, steps}
 use Rattle.model.specs.Word.{Symbol}
 use Rattle.model.specs.Shown.{lateGap, lateWord, earlyWord, splitWord, symbol}
 use Rattle.model.specs.Stamps.{stampsOf, stampsAfter}
-use Rattle.model.proofs.Lists.{all-append, append-map}
+use Rattle.model.proofs.Lists.{all-append}
 use Rattle.model.proofs.Paths.{trace-append, steps-last, trace-known, trace-ranged, length-steps}
 use Rattle.model.proofs.StampLaws.{stamps-last, early-late}
 use Rattle.table.specs.declared.Row.{Row}
@@ -62,7 +62,7 @@ last-gap : (tr : List Transition) (s t : Transition) (g : ℕ) → g ≡ lateGap
 unfolding lateWord
 last-gap tr s t g e =
     stamps-last 0 (map (λ t. symbol t (lateGap t)) tr) (symbol s g)
-    ∙ rw (e, append-map (λ t. symbol t (lateGap t)) tr (t ∷ [])) (sym (stamps-last 0 (map (λ t. symbol t (lateGap t)) tr) (symbol t (lateGap t))))
+    ∙ rw (e, map-append (λ t. symbol t (lateGap t)) tr (t ∷ [])) (sym (stamps-last 0 (map (λ t. symbol t (lateGap t)) tr) (symbol t (lateGap t))))
 
 module _ (c : List ℕ) (n : ℕ) (dist via : List ℕ) (i : ℕ) (trace stamps : List ℕ) (sound : Sound c n)
     (room : ShowRoom (rows c n) dist via i trace stamps) where

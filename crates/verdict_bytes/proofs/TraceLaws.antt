@@ -1,5 +1,5 @@
 -- The verdict on a trace in bytes by the call on values.
-use mathlib.Core.Path.{_≡_, refl, sym, ap, _∙_}
+use mathlib.Core.Path.{_≡_, refl, ap, _∙_}
 use mathlib.Core.List.{List, [], _++_, append-assoc, append-nil}
 use Prim.Native.Nat.{ℕ, _*_, _/_, min, _≤_}
 use native.Mathlib.Omega.{arith}
@@ -7,9 +7,7 @@ use lib.ListN.{length, take, drop, length-append, length-take}
 use lib.Seq.{take-append-le, drop-nil}
 use Rattle.model.specs.Table.{Transition}
 use Rattle.model.specs.Trace.{Handed}
-use Rattle.model.specs.Shown.{earlyWord, lateWord}
-use Rattle.model.specs.Stamps.{stampsOf}
-use Rattle.model.proofs.StampLaws.{length-stamps, early-late, early-length}
+use Rattle.model.proofs.StampLaws.{early-stamps, late-stamps}
 use Rattle.wire.specs.Bytes.{bytes, placed, wholes}
 use Rattle.table.specs.declared.Table.{Table}
 use Rattle.table.specs.declared.Refusal.{Refusal}
@@ -28,14 +26,6 @@ use Rattle.places.proofs.PlaceLaws.{length-wholes, decoded-take, handed-whole, 
 use Rattle.places.proofs.AgreeLaws.{Agree, agree-passes, agree-fails, after-passes, after-fails}
 use Rattle.verdict_bytes.specs.Traces.{bytesTests, TurnsBytes, TraceOnMachine}
 use Rattle.verdict_bytes.specs.TraceCall.{wroteBack, TraceCalled}
-
--- one stamp per step in each word
-module _ (tr : List Transition) where
-  pub early-stamps : (k m : ℕ) → length (stampsOf (earlyWord tr k m)) ≡ length tr
-  early-stamps k m = length-stamps 0 (earlyWord tr k m .symbols) ∙ early-length tr k m
-
-  pub late-stamps : length (stampsOf (lateWord tr)) ≡ length tr
-  late-stamps = ap (λ w. length (stampsOf w)) (sym (early-late tr 0)) ∙ early-stamps 0 0
 
 -- both words stand before what stood there
 module _ (tr : List Transition) (k m : ℕ) where

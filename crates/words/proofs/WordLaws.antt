@@ -15,7 +15,7 @@ use Rattle.model.specs.Stamps.{stampsAfter, stampsOf}
 use Rattle.model.proofs.Lists.{total-append, total-const, all-total}
 use Rattle.model.proofs.Pair.{gaps-high}
 use Rattle.model.proofs.Words.{early-activates}
-use Rattle.model.proofs.StampLaws.{early-late, length-stamps, stamps-last, early-parts, early-length, early-symbol}
+use Rattle.model.proofs.StampLaws.{early-late, length-stamps, stamps-last, early-parts, early-length, early-symbol, late-stamps}
 use Rattle.table.specs.declared.Row.{Row}
 use Rattle.table.specs.Rows.{rowOf, said}
 use Rattle.words.specs.Shows.{named, Ready, wrapped, wordLeft, wordsLeft}
@@ -162,8 +162,7 @@ both-written c l k m out₀ out part room first second =
     let n : ℕ = length l in
     let late : List ℕ = wrapped (stampsOf (lateWord tr)) in
     let ew : earlyWord tr k k ≡ lateWord tr = early-late tr k in
-    let el : length late ≡ n =
-    length-wrapped (stampsOf (lateWord tr)) ∙ length-stamps 0 (lateWord tr .symbols) ∙ ap (λ w. length (w .symbols)) (sym ew) ∙ length-shown c l k k in
+    let el : length late ≡ n = length-wrapped (stampsOf (lateWord tr)) ∙ late-stamps tr ∙ length-named c l in
     let eo : out ≡ late ++ drop n out₀ = rw (← ew) (first ∙ word-fits c l k k out₀ (omega arith)) in
     let hl : length out ≡ length out₀ = rw eo (simp (length-append, length-drop) (omega arith)) in
     let et : take n out ≡ late = rw eo (take-at late (drop n out₀) n el) in
