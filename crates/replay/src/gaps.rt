@@ -1,4 +1,5 @@
 // The gaps of a word against the guards of a trace. Nothing here stores.
+use table::Cells;
 use table::Row;
 ghost use mathlib.Core.Path.{_≡_};
 ghost use Prim.Native.Nat.{_*_, _<_};
@@ -37,7 +38,7 @@ fn inside(r: Row, gap: u32) -> bool
 }
 
 // The transition of the step at i.
-pub(crate) fn step_row(cells: &[u16; 1792], trace: &[u16], i: usize) -> Row
+pub(crate) fn step_row(cells: &Cells, trace: &[u16], i: usize) -> Row
     requires { ⌜ i < length (now trace) ⌝ }
     ensures { λ r. ⌜ r ≡ rowOf (now (cells .entry)) (getD (now (trace .entry)) i 0) ⌝ }
 {
@@ -45,7 +46,7 @@ pub(crate) fn step_row(cells: &[u16; 1792], trace: &[u16], i: usize) -> Row
 }
 
 // The first step, counted from 1, whose gap is outside its guard; 0 if there is none.
-pub(crate) fn first_outside(cells: &[u16; 1792], trace: &[u16], start: u32, stamps: &[u32]) -> usize
+pub(crate) fn first_outside(cells: &Cells, trace: &[u16], start: u32, stamps: &[u32]) -> usize
     requires { ⌜ length (now stamps) ≡ length (now trace) ⌝ }
     ensures { λ r. ⌜ Tried (rowsOf (now (cells .entry)) (now (trace .entry))) (gapsFrom start (now (stamps .entry))) r ⌝ }
 {

@@ -35,12 +35,15 @@ pub struct Row {
     pub d: u16,
 }
 
+// Seven numbers for each of 256 transitions; how they stand there is known to this crate alone.
+pub type Cells = [u16; 1792];
+
 // A table. Only the crate knows how the transitions stand in the cells.
 pub struct Table {
     pub states: u16,
     pub initial: u16,
     pub count: usize,
-    pub cells: [u16; 1792],
+    pub cells: Cells,
 }
 
 pub enum Checked {
@@ -112,7 +115,7 @@ pub fn place(r: Refusal) -> usize
 }
 
 // The transition at i; past the 256th stands nothing.
-pub fn row_of(cells: &[u16; 1792], i: usize) -> Row
+pub fn row_of(cells: &Cells, i: usize) -> Row
     ensures { λ r. ⌜ r ≡ rowOf (now (cells .entry)) i ⌝ }
 {
     if 256 <= i {

@@ -1,4 +1,5 @@
 // Whether a table value is valid: ranges, then equal pairs.
+use crate::Cells;
 use crate::Row;
 use crate::rows::has_row;
 use crate::rows::row_at;
@@ -58,7 +59,7 @@ pub(crate) fn in_range(states: u16, r: Row) -> bool
 }
 
 // All of the first n transitions within their ranges.
-pub(crate) fn all_in_range(cells: &[u16; 1792], n: usize, states: u16) -> bool
+pub(crate) fn all_in_range(cells: &Cells, n: usize, states: u16) -> bool
     requires { ⌜ n ≤ 256 ⌝ }
     ensures { λ b. ⌜ b ≡ allInRange states (rows (now (cells .entry)) n) ⌝ }
 {
@@ -73,7 +74,7 @@ pub(crate) fn all_in_range(cells: &[u16; 1792], n: usize, states: u16) -> bool
 }
 
 // Whether one of the first n transitions equals an earlier one.
-pub(crate) fn any_repeated(cells: &[u16; 1792], n: usize) -> bool
+pub(crate) fn any_repeated(cells: &Cells, n: usize) -> bool
     requires { ⌜ n ≤ 256 ⌝ }
     ensures { λ b. ⌜ b ≡ repeats (now (cells .entry)) n ⌝ }
 {

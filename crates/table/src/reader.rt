@@ -1,4 +1,5 @@
 // The reader: record by record, in document 01's order of tests.
+use crate::Cells;
 use crate::Checked;
 use crate::Counted;
 use crate::Frame;
@@ -108,7 +109,7 @@ fn frame(file: &[u8], at: usize) -> Frame
 }
 
 // A transition after n others: 3, 4, 5, else it is stored.
-fn admit(cells: &mut [u16; 1792], states: u16, n: usize, at: usize, r: Row) -> Checked
+fn admit(cells: &mut Cells, states: u16, n: usize, at: usize, r: Row) -> Checked
     requires { ⌜ n ≤ 256 ⌝ }
     ensures { λ a. ⌜ (a ≡ admitOf states at n (rows (now (cells .entry)) n) (said r)) × (now (cells .exit) ≡ admitCells a (now (cells .entry)) n (said r)) ⌝ }
 {
@@ -137,7 +138,7 @@ fn finish(file: &[u8], at: usize, n: usize) -> Counted
 }
 
 // The transitions after the head, stored one by one.
-pub(crate) fn read_rows(file: &[u8], states: u16, cells: &mut [u16; 1792]) -> Counted
+pub(crate) fn read_rows(file: &[u8], states: u16, cells: &mut Cells) -> Counted
     requires { ⌜ (8 ≤ length (now file)) × (now cells ≡ cellsOf []) ⌝ }
     ensures { λ r. ⌜ RowsOutcome (rowsFrom 256 states 8 (drop 8 (now (file .entry))) []) r (now (cells .exit)) ⌝ }
 {

@@ -1,4 +1,5 @@
 // How transitions stand in the cells of a table: seven numbers each.
+use crate::Cells;
 use crate::Row;
 ghost use mathlib.Core.Path.{_≡_};
 ghost use Prim.Native.Nat.{_+_, _*_, _≤_, _<_};
@@ -7,7 +8,7 @@ ghost use Rattle.table.specs.Rows.{rowAt, rows, said, putRow};
 ghost use Rattle.table.specs.Check.{same, has};
 
 // The transition at i.
-pub(crate) fn row_at(cells: &[u16; 1792], i: usize) -> Row
+pub(crate) fn row_at(cells: &Cells, i: usize) -> Row
     requires { ⌜ i < 256 ⌝ }
     ensures { λ r. ⌜ r ≡ rowAt (now (cells .entry)) i ⌝ }
 {
@@ -24,7 +25,7 @@ pub(crate) fn row_at(cells: &[u16; 1792], i: usize) -> Row
 }
 
 // The transition r stored at i.
-pub(crate) fn put_row(cells: &mut [u16; 1792], i: usize, r: Row)
+pub(crate) fn put_row(cells: &mut Cells, i: usize, r: Row)
     requires { ⌜ i < 256 ⌝ }
     ensures { λ _. ⌜ now (cells .exit) ≡ putRow (now (cells .entry)) i (said r) ⌝ }
 {
@@ -67,7 +68,7 @@ pub(crate) fn same_row(r: Row, s: Row) -> bool
 }
 
 // Whether r is one of the first n transitions.
-pub(crate) fn has_row(cells: &[u16; 1792], n: usize, r: Row) -> bool
+pub(crate) fn has_row(cells: &Cells, n: usize, r: Row) -> bool
     requires { ⌜ n ≤ 256 ⌝ }
     ensures { λ b. ⌜ b ≡ has (said r) (rows (now (cells .entry)) n) ⌝ }
 {

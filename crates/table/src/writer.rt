@@ -1,4 +1,5 @@
 // The writer: head, transitions, end.
+use crate::Cells;
 use crate::rows::row_at;
 ghost use mathlib.Core.Path.{_≡_};
 ghost use mathlib.Core.List.{_++_};
@@ -15,7 +16,7 @@ pub(crate) fn put_head(out: &mut [u8], states: u16, initial: u16)
     wire::put_twos(out, 0, &record);
 }
 
-fn put_row_record(cells: &[u16; 1792], i: usize, out: &mut [u8], at: usize)
+fn put_row_record(cells: &Cells, i: usize, out: &mut [u8], at: usize)
     requires { ⌜ i < 256 ⌝ }
     ensures { λ _. ⌜ now (out .exit) ≡ placed (now (out .entry)) at (bytes 2 (rowNumbers (said (rowAt (now (cells .entry)) i)))) ⌝ }
 {
@@ -32,7 +33,7 @@ pub(crate) fn put_end(out: &mut [u8], at: usize)
 }
 
 // The records of the first n transitions, behind the head.
-pub(crate) fn put_rows(cells: &[u16; 1792], n: usize, out: &mut [u8])
+pub(crate) fn put_rows(cells: &Cells, n: usize, out: &mut [u8])
     requires { ⌜ (n ≤ 256) × (8 + n * 18 ≤ length (now out)) ⌝ }
     ensures { λ _. ⌜ now (out .exit) ≡ placed (now (out .entry)) 8 (bytes 2 (flat rowNumbers (rows (now (cells .entry)) n))) ⌝ }
 {

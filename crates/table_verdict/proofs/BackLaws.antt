@@ -14,10 +14,10 @@ use Rattle.model.specs.Span.{span}
 use Rattle.model.specs.Shown.{lateGap}
 use Rattle.model.proofs.Lists.{all-at}
 use Rattle.table_verdict.specs.Walks.{Seen, Walk, TurnsTo, ShownWalk}
-use Rattle.table_verdict.specs.Best.{cell, rowBefore, Exact, Filled, Sized, Closes, ReadyFor, Explains, Explained, LeastRow, Back, EndRow, Went}
+use Rattle.table_verdict.specs.Best.{cell, rowBefore, Exact, Filled, Sized, Closes, ReadyFor, LowDelay, Explains, Explained, LeastRow, Back, EndRow, Went}
 use Rattle.table_verdict.proofs.WalkLaws.{sum-late, sum-last, trace-last, Last, walk-none, walk-wide, walk-on, walk-last, walk-zero}
 use Rattle.table_verdict.proofs.BestLaws.{filled-less}
-use Rattle.table_verdict.proofs.EndLaws.{turns-far, turns-closes, row-deep}
+use Rattle.table_verdict.proofs.EndLaws.{turns-known, turns-far, turns-closes, row-deep}
 
 -- one more number behind those that stand from place p on
 store-more : (p n : ℕ) (old rest : List ℕ) (j : ℕ) → length rest ≡ n → p + n < length old
@@ -170,15 +170,22 @@ module _ {ts : List Transition} {s : ℕ} {best : List ℕ} where
           rw q (went-on j (z .known) x d old mid n (omega (arith, w .short, step-falls)) v)
 
 -- the rows that are made for a transition that starts a turning pair
-module _ {ts : List Transition} {k m : ℕ} (fine : All (InRange 32) ts) (t : TurnsTo ts k m) {first : Transition} (z : Seen ts k first) where
+module _ {ts : List Transition} {k m n least : ℕ} (fine : All (InRange 32) ts) (t : TurnsTo ts k m) {first : Transition} (z : Seen ts k first)
+    (len : length ts ≡ n) (l : LowDelay ts n least) where
   far : at ts m .d + 2 ≤ first .d
   far = rw (z .here) at (turns-far t fine)
 
-  pub show-deep : 2 ≤ first .d
-  show-deep = omega (arith, far)
+  pub show-deep : least + 2 ≤ first .d
+  show-deep = let h = turns-known t in omega (arith, far, l .least m (omega arith))
 
-  pub show-ready : {best : List ℕ} → Sized ts (first .to) best → Filled ts (first .to) best (first .d - 2 + 1) → ReadyFor ts k best
-  show-ready s f = rw (z .here) (record { sized = s; depth = first .d - 2 + 1; filled = f; covers = λ m h. omega (arith, show-deep) })
+  pub show-ready : {best : List ℕ} → Sized ts (first .to) best → Filled ts (first .to) best (first .d - least - 2 + 1) → ReadyFor ts k best
+  show-ready s f =
+      rw (z .here) (record {
+        sized = s;
+        depth = first .d - least - 2 + 1;
+        filled = f;
+        covers = λ m h. omega (arith, show-deep, l .least m (omega arith));
+      })
 
 -- the row from which a walk is walked back, with the two transitions that the code has read
 module _ {ts : List Transition} {k m : ℕ} {best : List ℕ} (z : ReadyFor ts k best) (t : TurnsTo ts k m)

@@ -18,7 +18,7 @@ use Rattle.table_verdict.specs.Walks.{Seen, Walk}
 use Rattle.table_verdict.specs.Best.{cell, Exact, Filled, Sized, Making, Copied, Zeros, First}
 use Rattle.table_verdict.proofs.WalkLaws.{sound-fine, late-top, Last, walk-none, walk-wide, walk-on, walk-last, walk-small, walk-zero}
 
-pub sized : {c : List ℕ} {n s : ℕ} {best : List ℕ} → Sound c n → s < 32 → length best ≡ 7680 → Sized (rows c n) s best
+pub sized : {c : List ℕ} {n s : ℕ} {best : List ℕ} → Sound c n → s < 32 → length best ≡ 7648 → Sized (rows c n) s best
 sized z h l = record { fine = sound-fine z; start = h; size = l }
 
 -- a store in row a at state t
@@ -191,7 +191,7 @@ module _ {ts : List Transition} {s : ℕ} where
   making-end q m = filled-more (rw q at m)
 
   -- a row that is a copy of the one before is in the making
-  module _ {old best : List ℕ} {p : ℕ} (z : Sized ts s best) (h : p < 239) (f : Filled ts s old (p + 1)) (d : Copied old best p 32) where
+  module _ {old best : List ℕ} {p : ℕ} (z : Sized ts s best) (h : p < 238) (f : Filled ts s old (p + 1)) (d : Copied old best p 32) where
     copy-old : (a e : ℕ) → a < p + 1 → e < 32 → cell best a e ≡ cell old a e
     copy-old a e k l = d .same (a * 32 + e) (omega arith)
 

@@ -147,32 +147,33 @@ module _ {ts : List Transition} where
         record { most = l; top = below-more (λ k. Arrives ts dist s k → at ts k .d ≤ x) i (λ k q a. omega (arith, p .top k q a)) g }
 
 -- an arrival state: whether a fill is worth while, and that its rows are enough
-module _ {ts : List Transition} {dist : List ℕ} {s n least top : ℕ} (len : length ts ≡ n) (l : LowDelay ts n least) (p : TopDelay ts dist s n top) where
-  pub none-start : All (InRange 32) ts → {low : ℕ} → top < least + 2 → LeastBelow (StartsAt ts dist s) low low
+module _ {ts : List Transition} {dist : List ℕ} {s n low least top : ℕ} (len : length ts ≡ n) (l : LowDelay ts n least) (p : TopDelay ts dist s low top) where
+  pub none-start : All (InRange 32) ts → top < least + 2 → LeastBelow (StartsAt ts dist s) low low
   none-start fine h =
-      below-end refl (λ k _ q.
-      let a = q .arrives .known in
+      below-end refl (λ k under q.
       let t = q .after .turns in
       let b = turns-known t in
-      omega (arith, turns-far t fine, p .top k (omega arith) (q .arrives), l .least (q .after .m) (omega arith)))
+      omega (arith, turns-far t fine, p .top k under (q .arrives), l .least (q .after .m) (omega arith)))
 
-  pub ready-at : {best : List ℕ} → Sized ts s best → Filled ts s best (top - least - 2 + 1) → ReadyAt ts dist s best
+  pub ready-at : {best : List ℕ} → Sized ts s best → Filled ts s best (top - least - 2 + 1) → ReadyAt ts dist s low best
   ready-at z f =
       record {
-        ready = λ k q.
-            let a = q .known in
+        ready = λ k under q.
             record {
               sized = z;
               depth = top - least - 2 + 1;
               filled = f;
-              covers = λ m h. omega (arith, p .top k (omega arith) q, l .least m (omega arith));
+              covers = λ m h. omega (arith, p .top k under q, l .least m (omega arith));
             };
       }
 
+pub ready-less : {ts : List Transition} {dist best : List ℕ} {s n m : ℕ} → m ≤ n → ReadyAt ts dist s n best → ReadyAt ts dist s m best
+ready-less h z = record { ready = λ k under. z .ready k (omega arith) }
+
 -- an arrival, and what the ends answered
 module _ {ts : List Transition} {dist : List ℕ} {s k : ℕ} (p : Arrives ts dist s k) where
-  pub ready-for : {best : List ℕ} → ReadyAt ts dist s best → ReadyFor ts k best
-  ready-for z = rw (p .to) (z .ready k p)
+  pub ready-for : {best : List ℕ} → ReadyAt ts dist s (k + 1) best → ReadyFor ts k best
+  ready-for z = rw (p .to) (z .ready k (omega arith) p)
 
   pub is-start : (r : Found) → Least (TurnsTo ts k) r → tagOf the-type r ≡ 0 → StartsAt ts dist s k
   is-start (At m) l e = record { arrives = p; after = record { m = m; turns = l .0 } }

@@ -5,7 +5,9 @@ pub mod SplitLaws
 pub mod WalkLaws
 pub mod BestLaws
 pub mod EndLaws
+pub mod NeighbourLaws
 pub mod BackLaws
 pub mod ShownLaws
 pub mod DecideLaws
 pub mod OnlyLaws
+pub mod RoomLaws

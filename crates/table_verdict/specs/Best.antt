@@ -30,16 +30,16 @@ pub record Part (ts : List Transition) (s : ℕ) (best : List ℕ) (a i : ℕ) :
   pub goes : (j : ℕ) → j < i → at ts j .u ≤ a → 1 ≤ cell best (a - at ts j .u) (at ts j .from)
       → cell best (a - at ts j .u) (at ts j .from) + lateGap (at ts j) ≤ cell best a (at ts j .to)
 
--- room for the numbers of walks from s
+-- room for the numbers of walks from s: 239 rows of 32
 pub record Sized (ts : List Transition) (s : ℕ) (best : List ℕ) : Type 0 where
   pub fine : All (InRange 32) ts
   pub start : s < 32
-  pub size : length best ≡ 7680
+  pub size : length best ≡ 7648
 
 pub record Making (ts : List Transition) (s : ℕ) (best : List ℕ) (a i : ℕ) : Type 0 where
   pub sized : Sized ts s best
   pub low : 1 ≤ a
-  pub high : a ≤ 239
+  pub high : a ≤ 238
   pub done : Filled ts s best a
   pub part : Part ts s best a i
 
@@ -78,9 +78,9 @@ pub record Ready (ts : List Transition) (s g : ℕ) (best : List ℕ) : Type 0 w
 abbrev pub ReadyFor : List Transition → ℕ → List ℕ → Type 0
 ReadyFor ts k best = Ready ts (at ts k .to) (at ts k .d) best
 
--- rows enough for every transition that arrives in s
-pub record ReadyAt (ts : List Transition) (dist : List ℕ) (s : ℕ) (best : List ℕ) : Type 0 where
-  pub ready : (k : ℕ) → Arrives ts dist s k → Ready ts s (at ts k .d) best
+-- rows enough for every transition among the first n that arrives in s
+pub record ReadyAt (ts : List Transition) (dist : List ℕ) (s n : ℕ) (best : List ℕ) : Type 0 where
+  pub ready : (k : ℕ) → k < n → Arrives ts dist s k → Ready ts s (at ts k .d) best
 
 -- none of the first i transitions has a delay below r
 pub record LowDelay (ts : List Transition) (i r : ℕ) : Type 0 where
@@ -116,7 +116,7 @@ pub record Back (ts : List Transition) (s : ℕ) (best : List ℕ) (e a : ℕ) :
   pub sized : Sized ts s best
   pub filled : Filled ts s best (a + 1)
   pub state : e < 32
-  pub high : a ≤ 239
+  pub high : a ≤ 238
   pub some : 1 ≤ cell best a e
   pub least : (b : ℕ) → b < a → cell best b e ≡ cell best a e → ⊥
 

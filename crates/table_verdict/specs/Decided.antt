@@ -32,7 +32,7 @@ pub record Decision (ts : List Transition) (initial : ℕ) (trace₀ stamps₀ :
 pub record TurnRoom (ts : List Transition) (dist via best trace stamps : List ℕ) : Type 0 where
   pub initial : ℕ
   pub reach : Reach ts initial dist via
-  pub numbers : length best ≡ 7680
+  pub numbers : length best ≡ 7648
   pub places : 270 ≤ length trace
   pub stamps-places : 540 ≤ length stamps
 

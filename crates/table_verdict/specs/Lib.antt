@@ -4,6 +4,7 @@ pub mod Reach
 pub mod Rounds
 pub mod Split
 pub mod Walks
+pub mod Neighbours
 pub mod Best
 pub mod Shown
 pub mod Decided

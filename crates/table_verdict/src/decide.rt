@@ -1,5 +1,6 @@
 // The decision on a sound table: split, else turning, else strict.
 use crate::OnTable;
+use crate::neighbours::any_overtaken;
 use crate::reach::reach;
 use crate::search;
 use crate::search::lowest;
@@ -7,6 +8,7 @@ use crate::show::show_split;
 use crate::show::show_turn;
 use crate::split;
 use crate::split::first_split;
+use table::Cells;
 ghost use mathlib.Core.Path.{_≡_};
 ghost use Prim.Native.Nat.{_≤_, _<_};
 ghost use lib.ListN.{length, replicate};
@@ -16,7 +18,7 @@ ghost use Rattle.table_verdict.specs.Decided.{Decision, TurnRoom, TurnJu
 
 // The lowest transition that starts a turning pair, shown; or strict.
 fn judge_turning(
-    cells: &[u16; 1792],
+    cells: &Cells,
     count: usize,
     dist: &[u16],
     via: &[u16],
@@ -36,7 +38,7 @@ fn judge_turning(
 
 // The whole decision; dist and via are fresh.
 pub(crate) fn decide(
-    cells: &[u16; 1792],
+    cells: &Cells,
     count: usize,
     initial: u16,
     dist: &mut [u16],
@@ -48,11 +50,19 @@ pub(crate) fn decide(
         × (270 ≤ length (now trace)) × (540 ≤ length (now stamps)) ⌝ }
     ensures { λ r. ⌜ Decision (rows (now (cells .entry)) count) initial (now (trace .entry)) (now (stamps .entry)) r (now (trace .exit)) (now (stamps .exit)) ⌝ }
 {
+    // Never so in a sound table; said here, it need not be asked at every row read in the loops.
+    if 256 < count {
+        return OnTable::Strict;
+    }
     reach(cells, count, initial, dist, via);
     let found = first_split(cells, count, dist);
     if let split::Found::Pair(i, j) = found {
         return show_split(cells, count, dist, via, i, j, trace, stamps);
     }
-    let mut best = [0u32; 7680];
+    // An everyday strict table needs no search.
+    if !any_overtaken(cells, count) {
+        return OnTable::Strict;
+    }
+    let mut best = [0u32; 7648];
     judge_turning(cells, count, dist, via, &mut best, trace, stamps)
 }

@@ -6,6 +6,7 @@ ghost use mathlib.Core.Path.{_≡_};
 ghost use Rattle.table_verdict.specs.OnTable.{TableOutcome};
 
 mod decide;
+mod neighbours;
 mod reach;
 mod search;
 mod show;

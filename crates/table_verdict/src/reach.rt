@@ -1,4 +1,5 @@
 // Which states can be reached, how far each is from the initial one, and the way there.
+use table::Cells;
 use table::Row;
 use table::row_of;
 ghost use mathlib.Core.Path.{_≡_};
@@ -28,7 +29,7 @@ fn lead(row: Row, i: u16, r: u16, top: u16, dist: &mut [u16], via: &mut [u16]) -
 }
 
 // Round r: every transition from a state with the mark r. Answers the highest mark.
-fn round(cells: &[u16; 1792], count: usize, r: u16, dist: &mut [u16], via: &mut [u16]) -> u16
+fn round(cells: &Cells, count: usize, r: u16, dist: &mut [u16], via: &mut [u16]) -> u16
     requires { ⌜ Sound (now cells) count × Round (rows (now cells) count) (now dist) (now via) r 0 r ⌝ }
     ensures { λ top. ⌜ Round (rows (now (cells .entry)) count) (now (dist .exit)) (now (via .exit)) r count top ⌝ }
     ensures { λ top. ⌜ SameStart (now (dist .entry)) (now (dist .exit)) ⌝ }
@@ -43,13 +44,7 @@ fn round(cells: &[u16; 1792], count: usize, r: u16, dist: &mut [u16], via: &mut 
 }
 
 // The marks and the ways in, breadth first.
-pub(crate) fn reach(
-    cells: &[u16; 1792],
-    count: usize,
-    initial: u16,
-    dist: &mut [u16],
-    via: &mut [u16],
-)
+pub(crate) fn reach(cells: &Cells, count: usize, initial: u16, dist: &mut [u16], via: &mut [u16])
     requires { ⌜ Sound (now cells) count × (initial < 32) × (now dist ≡ replicate 32 0) × (length (now via) ≡ 32) ⌝ }
     ensures { λ _. ⌜ Reach (rows (now (cells .entry)) count) initial (now (dist .exit)) (now (via .exit)) ⌝ }
 {
@@ -65,7 +60,7 @@ pub(crate) fn reach(
 
 // The way from the initial state to a reached one, at the front of trace. Answers its number of steps.
 pub(crate) fn write_way(
-    cells: &[u16; 1792],
+    cells: &Cells,
     count: usize,
     dist: &[u16],
     via: &[u16],

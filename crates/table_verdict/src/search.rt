@@ -1,4 +1,5 @@
 // The search for a turning pair: for each arrival state, the greatest late sums of the walks from it.
+use table::Cells;
 use table::Row;
 ghost use mathlib.Core.Path.{_≡_};
 ghost use Prim.Native.Nat.{ℕ, _+_, _*_, _-_, _<_, _≤_};
@@ -15,7 +16,7 @@ pub(crate) enum Found {
 }
 
 // The transition at i of a sound table.
-pub(crate) fn row(cells: &[u16; 1792], count: usize, i: usize) -> Row
+pub(crate) fn row(cells: &Cells, count: usize, i: usize) -> Row
     requires { ⌜ Sound (now cells) count × (i < count) ⌝ }
     ensures { λ r. ⌜ Seen (rows (now (cells .entry)) count) i (said r) ⌝ }
 {
@@ -24,14 +25,14 @@ pub(crate) fn row(cells: &[u16; 1792], count: usize, i: usize) -> Row
 
 // The number in a row at a state.
 pub(crate) fn number(best: &[u32], row: usize, state: usize) -> u32
-    requires { ⌜ (length (now best) ≡ 7680) × (row ≤ 239) × (state < 32) ⌝ }
+    requires { ⌜ (length (now best) ≡ 7648) × (row ≤ 238) × (state < 32) ⌝ }
     ensures { λ r. ⌜ r ≡ cell (now (best .entry)) row state ⌝ }
 {
     best[row * 32 + state]
 }
 
 // Row `at` with what transition i adds to it.
-fn improve(cells: &[u16; 1792], count: usize, s: usize, best: &mut [u32], at: usize, i: usize)
+fn improve(cells: &Cells, count: usize, s: usize, best: &mut [u32], at: usize, i: usize)
     requires { ⌜ Sound (now cells) count × (i < count) × Making (rows (now cells) count) s (now best) at i ⌝ }
     ensures { λ _. ⌜ Making (rows (now (cells .entry)) count) s (now (best .exit)) at (i + 1) ⌝ }
 {
@@ -53,10 +54,14 @@ fn improve(cells: &[u16; 1792], count: usize, s: usize, best: &mut [u32], at: us
 }
 
 // Every transition for one row.
-fn sweep(cells: &[u16; 1792], count: usize, s: usize, best: &mut [u32], at: usize)
+fn sweep(cells: &Cells, count: usize, s: usize, best: &mut [u32], at: usize)
     requires { ⌜ Sound (now cells) count × Making (rows (now cells) count) s (now best) at 0 ⌝ }
     ensures { λ _. ⌜ Filled (rows (now (cells .entry)) count) s (now (best .exit)) (at + 1) ⌝ }
 {
+    // Never so in a sound table; said here, it need not be asked at every row read in the loop.
+    if 256 < count {
+        return;
+    }
     let mut i: usize = 0;
     while i < count {
         improve(cells, count, s, best, at, i);
@@ -66,7 +71,7 @@ fn sweep(cells: &[u16; 1792], count: usize, s: usize, best: &mut [u32], at: usiz
 
 // Row p + 1 begins as row p.
 fn copy_row(best: &mut [u32], p: usize)
-    requires { ⌜ (p < 239) × (length (now best) ≡ 7680) ⌝ }
+    requires { ⌜ (p < 238) × (length (now best) ≡ 7648) ⌝ }
     ensures { λ _. ⌜ Copied (now (best .entry)) (now (best .exit)) p 32 ⌝ }
 {
     let mut e: usize = 0;
@@ -79,7 +84,7 @@ fn copy_row(best: &mut [u32], p: usize)
 
 // Row 0 has s alone.
 fn first(best: &mut [u32], s: usize)
-    requires { ⌜ (s < 32) × (length (now best) ≡ 7680) ⌝ }
+    requires { ⌜ (s < 32) × (length (now best) ≡ 7648) ⌝ }
     ensures { λ _. ⌜ First (now (best .exit)) s ⌝ }
 {
     let mut e: usize = 0;
@@ -91,8 +96,8 @@ fn first(best: &mut [u32], s: usize)
 }
 
 // The rows 0 to limit of the greatest late sums over walks from s.
-pub(crate) fn fill(cells: &[u16; 1792], count: usize, s: usize, best: &mut [u32], limit: usize)
-    requires { ⌜ Sound (now cells) count × (s < 32) × (length (now best) ≡ 7680) × (limit ≤ 238) ⌝ }
+pub(crate) fn fill(cells: &Cells, count: usize, s: usize, best: &mut [u32], limit: usize)
+    requires { ⌜ Sound (now cells) count × (s < 32) × (length (now best) ≡ 7648) × (limit ≤ 238) ⌝ }
     ensures { λ _. ⌜ Filled (rows (now (cells .entry)) count) s (now (best .exit)) (limit + 1) ⌝ }
 {
     first(best, s);
@@ -113,8 +118,8 @@ pub(crate) fn row_before(g: usize, r: Row) -> usize
 }
 
 // Whether the numbers show that m ends a pair whose first step has delay g.
-fn closes(cells: &[u16; 1792], count: usize, best: &[u32], g: usize, m: usize) -> bool
-    requires { ⌜ Sound (now cells) count × (m < count) × (length (now best) ≡ 7680) × (g ≤ 240) ⌝ }
+fn closes(cells: &Cells, count: usize, best: &[u32], g: usize, m: usize) -> bool
+    requires { ⌜ Sound (now cells) count × (m < count) × (length (now best) ≡ 7648) × (g ≤ 240) ⌝ }
     ensures { λ r. ⌜ Tells r (Closes (rows (now (cells .entry)) count) (now (best .entry)) g m) ⌝ }
 {
     let r = row(cells, count, m);
@@ -134,7 +139,7 @@ fn closes(cells: &[u16; 1792], count: usize, best: &[u32], g: usize, m: usize) -
 }
 
 // The least transition that ends a turning pair whose first step is k.
-pub(crate) fn ends(cells: &[u16; 1792], count: usize, best: &[u32], k: usize) -> Found
+pub(crate) fn ends(cells: &Cells, count: usize, best: &[u32], k: usize) -> Found
     requires { ⌜ Sound (now cells) count × (k < count) × ReadyFor (rows (now cells) count) k (now best) ⌝ }
     ensures { λ r. ⌜ Least (TurnsTo (rows (now (cells .entry)) count) k) r ⌝ }
 {
@@ -150,7 +155,7 @@ pub(crate) fn ends(cells: &[u16; 1792], count: usize, best: &[u32], k: usize) ->
 }
 
 // The least delay of the table.
-fn least_delay(cells: &[u16; 1792], count: usize) -> usize
+pub(crate) fn least_delay(cells: &Cells, count: usize) -> usize
     requires { ⌜ Sound (now cells) count ⌝ }
     ensures { λ r. ⌜ LowDelay (rows (now (cells .entry)) count) count r ⌝ }
 {
@@ -167,7 +172,7 @@ fn least_delay(cells: &[u16; 1792], count: usize) -> usize
 }
 
 // Whether transition k arrives in s and leaves a reached state.
-fn arrives(cells: &[u16; 1792], count: usize, dist: &[u16], s: usize, k: usize) -> bool
+fn arrives(cells: &Cells, count: usize, dist: &[u16], s: usize, k: usize) -> bool
     requires { ⌜ Sound (now cells) count × (k < count) × (length (now dist) ≡ 32) ⌝ }
     ensures { λ r. ⌜ Tells r (Arrives (rows (now (cells .entry)) count) (now (dist .entry)) s k) ⌝ }
 {
@@ -182,7 +187,7 @@ fn arrives(cells: &[u16; 1792], count: usize, dist: &[u16], s: usize, k: usize) 
 }
 
 // The greater of top and the delay of transition i, if it arrives in s.
-fn raised(cells: &[u16; 1792], count: usize, dist: &[u16], s: usize, i: usize, top: usize) -> usize
+fn raised(cells: &Cells, count: usize, dist: &[u16], s: usize, i: usize, top: usize) -> usize
     requires { ⌜ Sound (now cells) count × (i < count) × (length (now dist) ≡ 32) × TopDelay (rows (now cells) count) (now dist) s i top ⌝ }
     ensures { λ r. ⌜ TopDelay (rows (now (cells .entry)) count) (now (dist .entry)) s (i + 1) r ⌝ }
 {
@@ -196,14 +201,14 @@ fn raised(cells: &[u16; 1792], count: usize, dist: &[u16], s: usize, i: usize, t
     d
 }
 
-// The greatest delay of the transitions that arrive in s.
-fn top_delay(cells: &[u16; 1792], count: usize, dist: &[u16], s: usize) -> usize
-    requires { ⌜ Sound (now cells) count × (length (now dist) ≡ 32) ⌝ }
-    ensures { λ r. ⌜ TopDelay (rows (now (cells .entry)) count) (now (dist .entry)) s count r ⌝ }
+// The greatest delay of the transitions below low that arrive in s.
+fn top_delay(cells: &Cells, count: usize, dist: &[u16], s: usize, low: usize) -> usize
+    requires { ⌜ Sound (now cells) count × (low ≤ count) × (length (now dist) ≡ 32) ⌝ }
+    ensures { λ r. ⌜ TopDelay (rows (now (cells .entry)) count) (now (dist .entry)) s low r ⌝ }
 {
     let mut top: usize = 0;
     let mut i: usize = 0;
-    while i < count {
+    while i < low {
         top = raised(cells, count, dist, s, i, top);
         i += 1;
     }
@@ -211,8 +216,8 @@ fn top_delay(cells: &[u16; 1792], count: usize, dist: &[u16], s: usize) -> usize
 }
 
 // Whether transition k arrives in s and starts a turning pair.
-fn starts(cells: &[u16; 1792], count: usize, dist: &[u16], best: &[u32], s: usize, k: usize) -> bool
-    requires { ⌜ Sound (now cells) count × (k < count) × (length (now dist) ≡ 32) × ReadyAt (rows (now cells) count) (now dist) s (now best) ⌝ }
+fn starts(cells: &Cells, count: usize, dist: &[u16], best: &[u32], s: usize, k: usize) -> bool
+    requires { ⌜ Sound (now cells) count × (k < count) × (length (now dist) ≡ 32) × ReadyAt (rows (now cells) count) (now dist) s (k + 1) (now best) ⌝ }
     ensures { λ r. ⌜ Tells r (StartsAt (rows (now (cells .entry)) count) (now (dist .entry)) s k) ⌝ }
 {
     if !arrives(cells, count, dist, s, k) {
@@ -226,14 +231,14 @@ fn starts(cells: &[u16; 1792], count: usize, dist: &[u16], best: &[u32], s: usiz
 
 // The least transition below low that arrives in s and starts a turning pair, or low.
 fn first_start(
-    cells: &[u16; 1792],
+    cells: &Cells,
     count: usize,
     dist: &[u16],
     best: &[u32],
     s: usize,
     low: usize,
 ) -> usize
-    requires { ⌜ Sound (now cells) count × (low ≤ count) × (length (now dist) ≡ 32) × ReadyAt (rows (now cells) count) (now dist) s (now best) ⌝ }
+    requires { ⌜ Sound (now cells) count × (low ≤ count) × (length (now dist) ≡ 32) × ReadyAt (rows (now cells) count) (now dist) s low (now best) ⌝ }
     ensures { λ r. ⌜ LeastBelow (StartsAt (rows (now (cells .entry)) count) (now (dist .entry)) s) low r ⌝ }
 {
     let mut k: usize = 0;
@@ -248,7 +253,7 @@ fn first_start(
 
 // The same, with the numbers for s made as far as they are looked at.
 fn lower(
-    cells: &[u16; 1792],
+    cells: &Cells,
     count: usize,
     dist: &[u16],
     best: &mut [u32],
@@ -256,11 +261,11 @@ fn lower(
     s: usize,
     low: usize,
 ) -> usize
-    requires { ⌜ Sound (now cells) count × (low ≤ count) × (length (now dist) ≡ 32) × (length (now best) ≡ 7680) × (s < 32)
+    requires { ⌜ Sound (now cells) count × (low ≤ count) × (length (now dist) ≡ 32) × (length (now best) ≡ 7648) × (s < 32)
         × LowDelay (rows (now cells) count) count least ⌝ }
     ensures { λ r. ⌜ LeastBelow (StartsAt (rows (now (cells .entry)) count) (now (dist .entry)) s) low r ⌝ }
 {
-    let top = top_delay(cells, count, dist, s);
+    let top = top_delay(cells, count, dist, s, low);
     if top < least + 2 {
         return low;
     }
@@ -269,8 +274,8 @@ fn lower(
 }
 
 // The lowest transition that leaves a reached state and starts a turning pair.
-pub(crate) fn lowest(cells: &[u16; 1792], count: usize, dist: &[u16], best: &mut [u32]) -> Found
-    requires { ⌜ Sound (now cells) count × (length (now dist) ≡ 32) × (length (now best) ≡ 7680) ⌝ }
+pub(crate) fn lowest(cells: &Cells, count: usize, dist: &[u16], best: &mut [u32]) -> Found
+    requires { ⌜ Sound (now cells) count × (length (now dist) ≡ 32) × (length (now best) ≡ 7648) ⌝ }
     ensures { λ r. ⌜ Least (Starts (rows (now (cells .entry)) count) (now (dist .entry))) r ⌝ }
 {
     let least = least_delay(cells, count);

@@ -2,6 +2,7 @@
 use crate::OnTable;
 use crate::reach::write_way;
 use crate::walk::show;
+use table::Cells;
 use table::Row;
 use table::row_of;
 ghost use mathlib.Core.Path.{_≡_};
@@ -26,7 +27,7 @@ fn lesser(r: Row, s: Row, i: usize, j: usize) -> u16
 // The way to the state that i leaves, then i, and the word that both i and j take there: while it is written, the
 // one with the lesser v stands at the end.
 pub(crate) fn show_split(
-    cells: &[u16; 1792],
+    cells: &Cells,
     count: usize,
     dist: &[u16],
     via: &[u16],
@@ -48,7 +49,7 @@ pub(crate) fn show_split(
 
 // The way to the state that k leaves, then k, the walk and its end; the late word, and the early word for k and that end.
 pub(crate) fn show_turn(
-    cells: &[u16; 1792],
+    cells: &Cells,
     count: usize,
     dist: &[u16],
     via: &[u16],
@@ -58,7 +59,7 @@ pub(crate) fn show_turn(
     stamps: &mut [u32],
 ) -> OnTable
     requires { ⌜ Sound (now cells) count × ShowRoom (rows (now cells) count) (now dist) (now via) k (now trace) (now stamps)
-        × TurnsAfter (rows (now cells) count) k × (length (now best) ≡ 7680) ⌝ }
+        × TurnsAfter (rows (now cells) count) k × (length (now best) ≡ 7648) ⌝ }
     ensures { λ r. ⌜ TurnStands (rows (now (cells .entry)) count) (now (dist .entry)) (now (via .entry)) k (now (trace .entry)) (now (stamps .entry)) r (now (trace .exit)) (now (stamps .exit)) ⌝ }
 {
     let first = row_of(cells, k);

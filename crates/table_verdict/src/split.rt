@@ -1,4 +1,5 @@
 // The first split pair: two transitions that leave one reached state, with one input and overlapping guards.
+use table::Cells;
 use table::Row;
 use table::row_of;
 ghost use mathlib.Core.Path.{_≡_};
@@ -49,7 +50,7 @@ fn forks(r: Row, s: Row) -> bool
 }
 
 // The least second transition of a split pair with i, or count where there is none.
-fn partner(cells: &[u16; 1792], count: usize, dist: &[u16], i: usize) -> usize
+fn partner(cells: &Cells, count: usize, dist: &[u16], i: usize) -> usize
     requires { ⌜ Sound (now cells) count × (length (now dist) ≡ 32) × (i < count) ⌝ }
     ensures { λ j. ⌜ Partner (rows (now (cells .entry)) count) (now (dist .entry)) i j ⌝ }
 {
@@ -69,7 +70,7 @@ fn partner(cells: &[u16; 1792], count: usize, dist: &[u16], i: usize) -> usize
 }
 
 // The split pair with the least first number, then the least second.
-pub(crate) fn first_split(cells: &[u16; 1792], count: usize, dist: &[u16]) -> Found
+pub(crate) fn first_split(cells: &Cells, count: usize, dist: &[u16]) -> Found
     requires { ⌜ Sound (now cells) count × (length (now dist) ≡ 32) ⌝ }
     ensures { λ r. ⌜ SplitOf (rows (now (cells .entry)) count) (now (dist .entry)) r ⌝ }
 {

@@ -2,9 +2,11 @@
 use crate::search::Found;
 use crate::search::ends;
 use crate::search::fill;
+use crate::search::least_delay;
 use crate::search::number;
 use crate::search::row;
 use crate::search::row_before;
+use table::Cells;
 ghost use mathlib.Core.Path.{_≡_};
 ghost use Prim.Native.Nat.{ℕ, _+_, _*_, _-_, _<_, _≤_};
 ghost use lib.ListN.{length};
@@ -22,7 +24,7 @@ fn low(x: usize) -> u16
 
 // The least row that has state e's number of row top.
 fn least_row(best: &[u32], e: usize, top: usize) -> usize
-    requires { ⌜ (length (now best) ≡ 7680) × (top ≤ 239) × (e < 32) ⌝ }
+    requires { ⌜ (length (now best) ≡ 7648) × (top ≤ 238) × (e < 32) ⌝ }
     ensures { λ a. ⌜ LeastRow (now (best .entry)) e top a ⌝ }
 {
     let x = number(best, top, e);
@@ -37,8 +39,8 @@ fn least_row(best: &[u32], e: usize, top: usize) -> usize
 }
 
 // Whether transition j is the last step of a walk that gives the number in row a at e.
-fn explains(cells: &[u16; 1792], count: usize, best: &[u32], e: usize, a: usize, j: usize) -> bool
-    requires { ⌜ Sound (now cells) count × (j < count) × (length (now best) ≡ 7680) × (a ≤ 239) × (e < 32) ⌝ }
+fn explains(cells: &Cells, count: usize, best: &[u32], e: usize, a: usize, j: usize) -> bool
+    requires { ⌜ Sound (now cells) count × (j < count) × (length (now best) ≡ 7648) × (a ≤ 238) × (e < 32) ⌝ }
     ensures { λ r. ⌜ Tells r (Explains (rows (now (cells .entry)) count) (now (best .entry)) e a j) ⌝ }
 {
     let r = row(cells, count, j);
@@ -61,8 +63,8 @@ fn explains(cells: &[u16; 1792], count: usize, best: &[u32], e: usize, a: usize,
 }
 
 // A transition that explains the number in row a at e.
-fn explain(cells: &[u16; 1792], count: usize, best: &[u32], e: usize, a: usize) -> usize
-    requires { ⌜ Sound (now cells) count × (length (now best) ≡ 7680) × (a ≤ 239) × (e < 32) × Explained (rows (now cells) count) (now best) e a ⌝ }
+fn explain(cells: &Cells, count: usize, best: &[u32], e: usize, a: usize) -> usize
+    requires { ⌜ Sound (now cells) count × (length (now best) ≡ 7648) × (a ≤ 238) × (e < 32) × Explained (rows (now cells) count) (now best) e a ⌝ }
     ensures { λ j. ⌜ (j < count) × Explains (rows (now (cells .entry)) count) (now (best .entry)) e a j ⌝ }
 {
     let mut j: usize = 0;
@@ -77,7 +79,7 @@ fn explain(cells: &[u16; 1792], count: usize, best: &[u32], e: usize, a: usize) 
 
 // The walk from s to e with the sum a of lower bounds, written from place `from` on: every call is a step back to a smaller sum.
 fn walk_back(
-    cells: &[u16; 1792],
+    cells: &Cells,
     count: usize,
     s: usize,
     best: &[u32],
@@ -102,7 +104,7 @@ fn walk_back(
 }
 
 // The row from which the walk before end m is walked back: the sum of its lower bounds.
-fn end_row(cells: &[u16; 1792], count: usize, best: &[u32], k: usize, m: usize) -> usize
+fn end_row(cells: &Cells, count: usize, best: &[u32], k: usize, m: usize) -> usize
     requires { ⌜ Sound (now cells) count × (k < count) × (m < count) × ReadyFor (rows (now cells) count) k (now best) × TurnsTo (rows (now cells) count) k m ⌝ }
     ensures { λ a. ⌜ EndRow (rows (now (cells .entry)) count) k m (now (best .entry)) a ⌝ }
 {
@@ -114,7 +116,7 @@ fn end_row(cells: &[u16; 1792], count: usize, best: &[u32], k: usize, m: usize) 
 
 // Step k, the walk that ends in row a, and step m, written from place `from` on.
 fn write_walk(
-    cells: &[u16; 1792],
+    cells: &Cells,
     count: usize,
     best: &[u32],
     k: usize,
@@ -136,21 +138,22 @@ fn write_walk(
 
 // A turning pair whose first step is k, with the least end: k, the walk and the end, written from place `from` on; answers the number of steps.
 pub(crate) fn show(
-    cells: &[u16; 1792],
+    cells: &Cells,
     count: usize,
     k: usize,
     best: &mut [u32],
     trace: &mut [u16],
     from: usize,
 ) -> usize
-    requires { ⌜ Sound (now cells) count × (k < count) × TurnsAfter (rows (now cells) count) k × (length (now best) ≡ 7680)
+    requires { ⌜ Sound (now cells) count × (k < count) × TurnsAfter (rows (now cells) count) k × (length (now best) ≡ 7648)
         × (from + 239 ≤ length (now trace)) ⌝ }
     ensures { λ n. ⌜ ShownLeast (rows (now (cells .entry)) count) k from (now (trace .entry)) (now (trace .exit)) n ⌝ }
 {
     let r = row(cells, count, k);
     let s = r.to as usize;
     let g = r.d as usize;
-    fill(cells, count, s, best, g - 2);
+    let least = least_delay(cells, count);
+    fill(cells, count, s, best, g - least - 2);
     match ends(cells, count, best, k) {
         Found::At(m) => {
             let a = end_row(cells, count, best, k, m);

@@ -1,4 +1,5 @@
 // Whether a list of transition numbers is a trace of a table.
+use table::Cells;
 ghost use mathlib.Core.Path.{_≡_};
 ghost use lib.Dec.{eqb};
 ghost use Rattle.table.specs.Rows.{rowOf, said};
@@ -20,7 +21,7 @@ fn all_named(count: usize, trace: &[u16]) -> bool
 }
 
 // Whether transition a arrives where transition b departs.
-fn joined(cells: &[u16; 1792], a: u16, b: u16) -> bool
+fn joined(cells: &Cells, a: u16, b: u16) -> bool
     ensures { λ r. ⌜ r ≡ eqb (rowOf (now (cells .entry)) a .to) (rowOf (now (cells .entry)) b .from) ⌝ }
 {
     let first = table::row_of(cells, a as usize);
@@ -29,7 +30,7 @@ fn joined(cells: &[u16; 1792], a: u16, b: u16) -> bool
 }
 
 // Each arrival state the next departure state.
-fn all_joined(cells: &[u16; 1792], trace: &[u16]) -> bool
+fn all_joined(cells: &Cells, trace: &[u16]) -> bool
     ensures { λ b. ⌜ Judged (Joins (λ i. said (rowOf (now (cells .entry)) i)) (now (trace .entry))) b ⌝ }
 {
     let mut i: usize = 1;
@@ -43,7 +44,7 @@ fn all_joined(cells: &[u16; 1792], trace: &[u16]) -> bool
 }
 
 // 1 to 512 numbers of transitions, each arrival state the next departure state.
-pub fn is_trace(cells: &[u16; 1792], count: usize, trace: &[u16]) -> bool
+pub fn is_trace(cells: &Cells, count: usize, trace: &[u16]) -> bool
     ensures { λ b. ⌜ Judged (TraceIn (now (cells .entry)) count (now (trace .entry))) b ⌝ }
 {
     if 256 < count {

@@ -1,4 +1,5 @@
 // The least pair of steps that turns.
+use table::Cells;
 ghost use Prim.Native.Nat.{_+_, _^_, _<_};
 ghost use lib.ListN.{length};
 ghost use Rattle.trace.specs.Named.{Judged};
@@ -32,7 +33,7 @@ fn turns(u: u32, v: u32, first: u32, second: u32) -> bool
 }
 
 // The least step that turns with k; the sums over the steps after k are carried along.
-pub(crate) fn partner_of(cells: &[u16; 1792], trace: &[u16], k: usize) -> Partner
+pub(crate) fn partner_of(cells: &Cells, trace: &[u16], k: usize) -> Partner
     requires { ⌜ (k < length (now trace)) × Ready (now cells) (now trace) ⌝ }
     ensures { λ r. ⌜ PartnerOf (named (now (cells .entry)) (now (trace .entry))) k r ⌝ }
 {
@@ -57,7 +58,7 @@ pub(crate) fn partner_of(cells: &[u16; 1792], trace: &[u16], k: usize) -> Partne
 }
 
 // The least k that turns with a later step, and the least such step.
-pub(crate) fn least_pair(cells: &[u16; 1792], trace: &[u16]) -> Pair
+pub(crate) fn least_pair(cells: &Cells, trace: &[u16]) -> Pair
     requires { ⌜ Ready (now cells) (now trace) ⌝ }
     ensures { λ r. ⌜ PairOf (named (now (cells .entry)) (now (trace .entry))) r ⌝ }
 {

@@ -114,6 +114,13 @@ le-join l k =
     let e : k + 1 + 1 ≡ k + 2 = omega arith in
     rw e (omega arith)
 
+-- four bytes, read one by one
+pub le-four : (l : List ℕ) (k : ℕ)
+    → le 4 l k ≡ getD l k 0 + getD l (k + 1) 0 * 256 + (getD l (k + 2) 0 + getD l (k + 3) 0 * 256) * 65536
+le-four l k =
+    let e : k + 2 + 1 ≡ k + 3 = omega arith in
+    rw (le-join l k, e) (omega arith)
+
 -- what has no room is not stored
 pub placed-not : (l : List ℕ) (k : ℕ) (new : List ℕ) → length l < k + length new → l ≡ placed l k new
 unfolding placed

@@ -1,6 +1,6 @@
 // Little-endian numbers in byte slices. Every function is total: past the end stands 0, and what has no room is not written.
 ghost use mathlib.Core.Path.{_≡_};
-ghost use Prim.Native.Nat.{_+_, _*_, _≤_, _<_};
+ghost use Prim.Native.Nat.{_+_, _*_, _≤_, _<_, min};
 ghost use lib.ListN.{length, getD};
 ghost use Rattle.wire.specs.Bytes.{le, bytes, placed, taken};
 
@@ -91,17 +91,22 @@ pub fn put_fours(out: &mut [u8], k: usize, vals: &[u32])
     }
 }
 
+// The lesser of two counts.
+fn lesser(a: usize, b: usize) -> usize
+    ensures { λ r. ⌜ r ≡ min a b ⌝ }
+{
+    if a < b { a } else { b }
+}
+
 // The numbers of two bytes each that b begins with, as many as out has places for.
 pub fn take_twos(b: &[u8], out: &mut [u16])
     ensures { λ _. ⌜ now (out .exit) ≡ taken 2 (now (b .entry)) (now (out .entry)) ⌝ }
 {
-    let whole = b.len() / 2;
+    let n = lesser(out.len(), b.len() / 2);
     let mut i: usize = 0;
-    while i < whole {
-        if out.len() <= i {
-            return;
-        }
-        out[i] = two(b, i * 2);
+    while i < n {
+        let at = i * 2;
+        out[i] = pair(b[at], b[at + 1]);
         i += 1;
     }
 }
@@ -110,13 +115,11 @@ pub fn take_twos(b: &[u8], out: &mut [u16])
 pub fn take_fours(b: &[u8], out: &mut [u32])
     ensures { λ _. ⌜ now (out .exit) ≡ taken 4 (now (b .entry)) (now (out .entry)) ⌝ }
 {
-    let whole = b.len() / 4;
+    let n = lesser(out.len(), b.len() / 4);
     let mut i: usize = 0;
-    while i < whole {
-        if out.len() <= i {
-            return;
-        }
-        out[i] = four(b, i * 4);
+    while i < n {
+        let at = i * 4;
+        out[i] = quad(pair(b[at], b[at + 1]), pair(b[at + 2], b[at + 3]));
         i += 1;
     }
 }

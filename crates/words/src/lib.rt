@@ -1,4 +1,5 @@
 // The stamps of the words that a verdict shows.
+use table::Cells;
 use table::Row;
 ghost use mathlib.Core.Path.{_≡_};
 ghost use lib.ListN.{getD};
@@ -21,7 +22,7 @@ pub fn late_gap(r: Row) -> u32
 }
 
 // The transition of the step at i; past the end that of number 0.
-pub fn step(cells: &[u16; 1792], trace: &[u16], i: usize) -> Row
+pub fn step(cells: &Cells, trace: &[u16], i: usize) -> Row
     ensures { λ r. ⌜ r ≡ rowOf (now (cells .entry)) (getD (now (trace .entry)) i 0) ⌝ }
 {
     if trace.len() <= i {
@@ -44,7 +45,7 @@ fn gap_at(r: Row, i: usize, k: usize, m: usize) -> u32
 }
 
 // The word that is early for the steps k+1 to m, from stamp 0; with m = k it is the late word.
-pub fn write_word(cells: &[u16; 1792], trace: &[u16], k: usize, m: usize, out: &mut [u32])
+pub fn write_word(cells: &Cells, trace: &[u16], k: usize, m: usize, out: &mut [u32])
     ensures { λ _. ⌜ now (out .exit) ≡ wordLeft (now (cells .entry)) (now (trace .entry)) k m (now (out .entry)) ⌝ }
 {
     if out.len() < trace.len() {
@@ -60,7 +61,7 @@ pub fn write_word(cells: &[u16; 1792], trace: &[u16], k: usize, m: usize, out: &
 }
 
 // The late word, then the early word for the steps k and m in the part that begins after it.
-pub fn write_words(cells: &[u16; 1792], trace: &[u16], k: usize, m: usize, stamps: &mut [u32])
+pub fn write_words(cells: &Cells, trace: &[u16], k: usize, m: usize, stamps: &mut [u32])
     ensures { λ _. ⌜ now (stamps .exit) ≡ wordsLeft (now (cells .entry)) (now (trace .entry)) k m (now (stamps .entry)) ⌝ }
 {
     let n = trace.len();

@@ -11,7 +11,7 @@ use Rattle.table_verdict.proofs.search.fill.Statement.{statement}
 use Rattle.table_verdict.proofs.search.fill.Tie as tie
 
 abbrev Inv-loop : tie.InvT-loop
-Inv-loop cells count s best₀ limit p₀ best p = (p ≤ limit) × (length best ≡ 7680) × Filled (rows cells count) s best (p + 1)
+Inv-loop cells count s best₀ limit p₀ best p = (p ≤ limit) × (length best ≡ 7648) × Filled (rows cells count) s best (p + 1)
 
 abbrev μ-loop : tie.MeasureT-loop
 μ-loop cells count s best₀ limit p₀ best p = limit - p

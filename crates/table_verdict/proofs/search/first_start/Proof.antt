@@ -5,7 +5,7 @@ use Prim.Native.Nat.{ℕ, _≤_, _<_, _-_}
 use Rattle.table.specs.Rows.{rows}
 use Rattle.table_verdict.specs.Walks.{StartsAt}
 use Rattle.table_verdict.proofs.WalkLaws.{told, untold}
-use Rattle.table_verdict.proofs.EndLaws.{below-at, below-end}
+use Rattle.table_verdict.proofs.EndLaws.{below-at, below-end, ready-less}
 use Rattle.table_verdict.proofs.search.first_start.Statement.{statement}
 use Rattle.table_verdict.proofs.search.first_start.Tie as tie
 
@@ -19,7 +19,9 @@ loop-holds : tie.Need-loop-holds Inv-loop μ-loop
 loop-holds c = (omega arith, λ x h. absurd (omega arith))
 
 starts-requires : tie.Need-starts-requires Inv-loop μ-loop
-starts-requires c κs = search needs
+starts-requires c κs =
+    let s = c .before .before .before .before .pre in
+    (s .0, omega arith, s .2, ready-less (omega arith) (s .3))
 
 returns : tie.Need-returns Inv-loop μ-loop
 returns c =

@@ -16,6 +16,9 @@ Inv-loop cells count s best₀ at i₀ best i = (i ≤ count) × (length best �
 abbrev μ-loop : tie.MeasureT-loop
 μ-loop cells count s best₀ at i₀ best i = count - i
 
+returns : tie.Need-returns Inv-loop μ-loop
+returns c = absurd (omega (arith, c .before .before .pre .0 .few))
+
 loop-holds : tie.Need-loop-holds Inv-loop μ-loop
 loop-holds c = search needs
 
@@ -34,9 +37,9 @@ loop-again c = search needs
 same-length : tie.Need-same-length Inv-loop μ-loop
 same-length c = search needs
 
-returns : tie.Need-returns Inv-loop μ-loop
-returns c =
-    let a = c .before .before .before .args in
+returns-2 : tie.Need-returns-2 Inv-loop μ-loop
+returns-2 c =
+    let a = c .before .before .before .before .args in
     making-end (omega (arith, length-rows (a .cells .now) (a .count))) (c .before .loop .inv .2)
 
 pub sweep-spec : {M : Type 1} → statement M
@@ -45,10 +48,11 @@ sweep-spec =
     (tie.spec
     Inv-loop
     μ-loop
+    returns
     loop-holds
     improve-requires
     add-i
     loop-less
     loop-again
     same-length
-    returns)
+    returns-2)

@@ -9,10 +9,10 @@ use Rattle.table_verdict.proofs.search.top_delay.Statement.{statement}
 use Rattle.table_verdict.proofs.search.top_delay.Tie as tie
 
 abbrev Inv-loop : tie.InvT-loop
-Inv-loop cells count dist s top₀ i₀ top i = (i ≤ count) × TopDelay (rows cells count) dist s i top
+Inv-loop cells count dist s low top₀ i₀ top i = (i ≤ low) × TopDelay (rows cells count) dist s i top
 
 abbrev μ-loop : tie.MeasureT-loop
-μ-loop cells count dist s top₀ i₀ top i = count - i
+μ-loop cells count dist s low top₀ i₀ top i = low - i
 
 loop-holds : tie.Need-loop-holds Inv-loop μ-loop
 loop-holds c = (omega arith, top-none)
@@ -31,7 +31,7 @@ loop-again c = search needs
 
 returns : tie.Need-returns Inv-loop μ-loop
 returns c =
-    let e : c .before .loop .i ≡ c .before .before .before .args .count = omega arith in
+    let e : c .before .loop .i ≡ c .before .before .before .args .low = omega arith in
     rw e at (c .before .loop .inv .1)
 
 pub top-delay-spec : {M : Type 1} → statement M

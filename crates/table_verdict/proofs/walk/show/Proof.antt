@@ -19,10 +19,23 @@ cast-s c = search needs
 cast-g : tie.Need-cast-g
 cast-g c = search needs
 
+least-delay-requires : tie.Need-least-delay-requires
+least-delay-requires c κs = search needs
+
 sub-fill : tie.Need-sub-fill
 sub-fill c =
-    let s = c .before .before .before .before .before .before .pre in
-    let d = show-deep (sound-fine (s .0)) (s .2 .turns) (c .before .before .before .row .ensures) in
+    let least = c .before in
+    let row = least .before .before .before in
+    let s = row .before .before .before in
+    let d = show-deep (sound-fine (s .pre .0)) (s .pre .2 .turns) (row .row .ensures) (length-rows _ _) (least .least-delay .ensures) in
+    omega arith
+
+sub-fill-2 : tie.Need-sub-fill-2
+sub-fill-2 c =
+    let least = c .before in
+    let row = least .before .before .before in
+    let s = row .before .before .before in
+    let d = show-deep (sound-fine (s .pre .0)) (s .pre .2 .turns) (row .row .ensures) (length-rows _ _) (least .least-delay .ensures) in
     omega arith
 
 fill-requires : tie.Need-fill-requires
@@ -30,25 +43,31 @@ fill-requires c κs = search needs
 
 ends-requires : tie.Need-ends-requires
 ends-requires c κs =
-    let s = c .before .before .before .before .before .before .before .before .before .before .pre in
-    let r = c .before .before .before .before .before .before .before .row .ensures in
-    let f = c .before .before .before .fill in
-    let z = sized {best = f .last .1 .1 .1 .0} (s .0) (r .fine .arrives) (omega (arith, f .kept .1 .1 .1 .0, s .3)) in
-    (s .0, s .1, show-ready (sound-fine (s .0)) (s .2 .turns) r z (f .ensures))
+    let f = c .before .before .before in
+    let least = f .before .before in
+    let row = least .before .before .before in
+    let s = row .before .before .before in
+    let r = row .row .ensures in
+    let z = sized {best = f .fill .last .1 .1 .1 .0} (s .pre .0) (r .fine .arrives) (omega (arith, f .fill .kept .1 .1 .1 .0, s .pre .3)) in
+    let y = show-ready (sound-fine (s .pre .0)) (s .pre .2 .turns) r (length-rows _ _) (least .least-delay .ensures) z (f .fill .ensures) in
+    (s .pre .0, s .pre .1, y)
 
 enum-known-m : tie.Need-enum-known-m
 enum-known-m c = search needs
 
 end-row-requires : tie.Need-end-row-requires
 end-row-requires c κs =
-    let s = c .before .before .before .before .before .before .before .before .before .before .before .before .before .before .before in
-    let r = c .before .before .before .before .before .before .before .before .before .before .before .before .row .ensures in
-    let f = c .before .before .before .before .before .before .before .before .fill in
-    let z = sized {best = f .last .1 .1 .1 .0} (s .pre .0) (r .fine .arrives) (omega (arith, f .kept .1 .1 .1 .0, s .pre .3)) in
+    let f = c .before .before .before .before .before .before .before .before in
+    let least = f .before .before in
+    let row = least .before .before .before in
+    let s = row .before .before .before in
+    let r = row .row .ensures in
+    let z = sized {best = f .fill .last .1 .1 .1 .0} (s .pre .0) (r .fine .arrives) (omega (arith, f .fill .kept .1 .1 .1 .0, s .pre .3)) in
+    let y = show-ready (sound-fine (s .pre .0)) (s .pre .2 .turns) r (length-rows _ _) (least .least-delay .ensures) z (f .fill .ensures) in
     let l = rw (c .before .before .m .given .1) at (c .before .before .before .before .ends .ensures) in
     let h = turns-known (l .0) in
     let n = length-rows (s .args .cells .now) (s .args .count) in
-    (s .pre .0, s .pre .1, omega arith, show-ready (sound-fine (s .pre .0)) (s .pre .2 .turns) r z (f .ensures), l .0)
+    (s .pre .0, s .pre .1, omega arith, y, l .0)
 
 write-walk-requires : tie.Need-write-walk-requires
 write-walk-requires c κs = search needs
@@ -73,7 +92,7 @@ same-length-3 c = search needs
 
 returns-2 : tie.Need-returns-2
 returns-2 c =
-    let s = c .before .before .before .before .before .before .before .before .before .before .before .before .before in
+    let s = c .before .before .before .before .before .before .before .before .before .before .before .before .before .before in
     let a = s .args in
     let e = c .before .before .ends in
     let t = s .pre .2 in
@@ -86,7 +105,9 @@ show-spec =
     row-requires
     cast-s
     cast-g
+    least-delay-requires
     sub-fill
+    sub-fill-2
     fill-requires
     ends-requires
     enum-known-m

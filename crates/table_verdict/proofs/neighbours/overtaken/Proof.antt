@@ -1,0 +1,67 @@
+use borrow.Author.Needs.{needs}
+use borrow.Author.Count.{below-more}
+use native.Mathlib.Omega.{arith}
+use Prim.Native.Nat.{ℕ, _≤_, _<_, _-_}
+use Rattle.model.specs.Table.{at}
+use Rattle.table.specs.Rows.{rows}
+use Rattle.table.proofs.RowLaws.{length-rows}
+use Rattle.table_verdict.specs.Neighbours.{Overtakes}
+use Rattle.table_verdict.proofs.WalkLaws.{told, untold}
+use Rattle.table_verdict.proofs.NeighbourLaws.{overtaken-by, not-by, not-overtaken}
+use Rattle.table_verdict.proofs.neighbours.overtaken.Statement.{statement}
+use Rattle.table_verdict.proofs.neighbours.overtaken.Tie as tie
+
+abbrev Inv-loop : tie.InvT-loop
+Inv-loop cells count k first m₀ m = (m ≤ count) × ((x : ℕ) → x < m → Overtakes (at (rows cells count) k) (at (rows cells count) x) → ⊥)
+
+abbrev μ-loop : tie.MeasureT-loop
+μ-loop cells count k first m₀ m = count - m
+
+row-requires : tie.Need-row-requires Inv-loop μ-loop
+row-requires c κs = search needs
+
+loop-holds : tie.Need-loop-holds Inv-loop μ-loop
+loop-holds c = (omega arith, λ x h. absurd (omega arith))
+
+row-requires-2 : tie.Need-row-requires-2 Inv-loop μ-loop
+row-requires-2 c κs = search needs
+
+overtakes-requires : tie.Need-overtakes-requires Inv-loop μ-loop
+overtakes-requires c κs = search needs
+
+returns : tie.Need-returns Inv-loop μ-loop
+returns c =
+    let z = c .before .before .before .before .before .row .ensures in
+    overtaken-by z (c .before .before .row2 .ensures) (told _ (c .before .overtakes .ensures) (c .if1 .taken))
+
+add-m : tie.Need-add-m Inv-loop μ-loop
+add-m c = search needs
+
+loop-less : tie.Need-loop-less Inv-loop μ-loop
+loop-less c = search needs
+
+loop-again : tie.Need-loop-again Inv-loop μ-loop
+loop-again c =
+    let z = c .before .before .before .before .before .row .ensures in
+    let l = c .before .before .before .before .loop in
+    let o = untold _ (c .before .overtakes .ensures) (c .if1 .left) in
+    (omega arith, below-more _ (l .m) (l .inv .1) (not-by z (c .before .before .row2 .ensures) o))
+
+returns-2 : tie.Need-returns-2 Inv-loop μ-loop
+returns-2 c = not-overtaken (length-rows _ _) (omega arith) (c .before .loop .inv .1)
+
+pub overtaken-spec : {M : Type 1} → statement M
+overtaken-spec =
+    tie.close
+    (tie.spec
+    Inv-loop
+    μ-loop
+    row-requires
+    loop-holds
+    row-requires-2
+    overtakes-requires
+    returns
+    add-m
+    loop-less
+    loop-again
+    returns-2)
