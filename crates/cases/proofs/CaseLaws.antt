@@ -1,4 +1,4 @@
--- What it takes that a case holds: no outcome is allowed but the one that it expects.
+-- What it takes that a case holds: the outcome that it expects is allowed, and no other.
 use mathlib.Core.Path.{_≡_, refl, sym, ap, _∙_}
 use mathlib.Core.Logic.{inr}
 use mathlib.Core.List.{List, [], _∷_, _++_, map, append-assoc}
@@ -10,17 +10,21 @@ use Rattle.model.specs.Trace.{Trace, steps}
 use Rattle.model.specs.Word.{Fits, Takes}
 use Rattle.model.specs.Order.{Response, response, Conversion}
 use Rattle.model.specs.Span.{Criterion, WalkTurns}
-use Rattle.model.specs.Verdict.{SplitPair}
+use Rattle.model.specs.Verdict.{SplitPair, Splits}
 use Rattle.model.specs.Shown.{lateWord, earlyWord}
 use Rattle.model.specs.Stamps.{gapsFrom, spelled, wordFrom, stampsOf}
 use Rattle.model.proofs.Lists.{Beside, beside-both}
 use Rattle.model.proofs.Conversion.{order, conversion-exists}
-use Rattle.model.proofs.Turn.{table-walk-law}
+use Rattle.model.proofs.Pair.{turns-law}
+use Rattle.model.proofs.Paths.{trace-ranged, length-steps}
+use Rattle.model.proofs.Split.{split-law}
+use Rattle.model.proofs.Turn.{ShownTurn, turn-shown, table-walk-law}
 use Rattle.table.specs.declared.Table.{Table}
 use Rattle.table.specs.declared.Checked.the-variants.{Sound}
 use Rattle.table.specs.declared.Refusal.the-variants.{Outside}
 use Rattle.table.specs.Rows.{rows, machineOf}
 use Rattle.table.specs.Check.{checkOf}
+use Rattle.table.specs.Tests.{Passes}
 use Rattle.table.proofs.TestLaws.{sound-valid, sound-passes, passes-fails}
 use Rattle.trace.specs.Named.{stepsIn}
 use Rattle.trace.proofs.TraceLaws.{length-steps-in}
@@ -39,8 +43,8 @@ use Rattle.verdict.proofs.JudgeLaws.{Tested, steady, turning}
 use Rattle.verdict.proofs.JudgeLaws as verdict
 use Rattle.table_verdict.specs.declared.OnTable.{OnTable}
 use Rattle.table_verdict.specs.declared.OnTable.the-variants.{Strict, Split, Turning as TurningTable, Refused as RefusedTable}
-use Rattle.table_verdict.specs.OnTable.{tableTests}
-use Rattle.cases.specs.Cases.{Case, replayed, judged, tabled, Holds}
+use Rattle.table_verdict.specs.OnTable.{tableTests, AnswersTurning, TableOutcome}
+use Rattle.cases.specs.Cases.{Case, replayed, judged, tabled, sized, Size, over, Holds}
 
 -- the responses to the word that the stamps make
 unfoldable pub responsesOf : List Transition → ℕ → List ℕ → List Response
@@ -82,6 +86,7 @@ Computed (judged t trace answer) =
     Tested t trace × (tr ≡ at tr 0 ∷ at tr 1 ∷ []) × Judges (at tr 0) (at tr 1) answer
 Computed (tabled t answer trace stamps) =
     (checkOf t ≡ Sound) × ((i j : ℕ) → SplitPair (machineOf t) i j → ⊥) × Tells (machineOf t) answer trace stamps
+Computed (sized c) = (states initial : ℕ) → Size states initial → Computed (c states initial)
 
 -- the first step is outside
 pub at-once : {tr : List Transition} {gaps : List ℕ} → 1 ≤ length tr → (Fits 256 (at tr 0) (getD gaps 0 0) → ⊥) → FirstOutside tr gaps 1
@@ -118,7 +123,7 @@ module _ {t : Table} {trace : List ℕ} (h : Tested t trace) where
 
     replays : (answer : Replayed) (os ds : List ℕ) → Replays tr start stamps answer os ds
         → (o₀ d₀ : List ℕ) → length trace ≤ length o₀ → length trace ≤ length d₀
-        → ReplayOutcome t trace start stamps o₀ d₀ answer (os ++ drop (length os) o₀) (ds ++ drop (length ds) d₀)
+        → ReplayOutcome t trace start stamps o₀ d₀ answer (over os o₀) (over ds d₀)
     unfolding wordFrom
     replays Played os ds (fits, eo, ed) o₀ d₀ ho hd =
         let lo : length os ≡ length trace = filled (λ x. x .step) os eo in
@@ -146,30 +151,80 @@ module _ {t : Table} {trace : List ℕ} (h : Tested t trace) where
         (s, rw (first, second) (turning h s₀ room 0 1 s (rw same (c, λ i j x. let p = only-pair i j x in inr (omega arith, omega arith))) refl))
     judges (Unjudged r) c = absurd c
 
--- every outcome that is allowed for a table is the one that its case expects
-module _ (t : Table) (sound : checkOf t ≡ Sound) (unsplit : (i j : ℕ) → SplitPair (machineOf t) i j → ⊥) where
+-- a table that doesn't split, and memory of enough places
+module _ (t : Table) (sound : checkOf t ≡ Sound) (unsplit : (i j : ℕ) → SplitPair (machineOf t) i j → ⊥) (l₀ s₀ : List ℕ)
+    (a : 270 ≤ length l₀) (b : 540 ≤ length s₀) where
   abbrev m : Machine
   m = machineOf t
 
   valid : Valid m
   valid = sound-valid t sound .1
 
-  told : (answer : OnTable) (trace stamps : List ℕ) → Tells m answer trace stamps → Holds (tabled t answer trace stamps)
-  told answer trace stamps c l₀ s₀ a b (RefusedTable r) l s x =
-      absurd (passes-fails (tableTests t l₀ s₀) r (sound-passes t (drop 3 (tableTests t l₀ s₀)) sound ((a, b), tt)) (x .0))
-  told answer trace stamps c l₀ s₀ a b (Split i j n) l s x = absurd (unsplit i j (x .1 .pair .pair))
-  told Strict trace stamps (none, el, es) l₀ s₀ a b Strict l s x = (refl, rw el (x .2), rw es (x .3))
-  told Strict trace stamps (none, el, es) l₀ s₀ a b (TurningTable k n) l s x =
+  passes : Passes (tableTests t l₀ s₀)
+  passes = sound-passes t (drop 3 (tableTests t l₀ s₀)) sound ((a, b), tt)
+
+  whole : Splits m → ⊥
+  whole x = let p = split-law m valid .0 x in unsplit (p .0) (p .1) (p .2)
+
+  -- the turn that the model shows for the walk: only the expected trace has two steps
+  answers : (k n : ℕ) (trace stamps : List ℕ) → Tells m (TurningTable k n) trace stamps → AnswersTurning m l₀ s₀ k n (over trace l₀) (over stamps s₀)
+  answers k n trace stamps (some, two, f, g, es, len) =
+      let s : ShownTurn m (some .0) = turn-shown m valid (some .1) in
+      let p = two (s .trace) (s .end) (s .k) (s .last) (s .path) (s .meets .ordered) (omega (arith, s .ends)) in
+      let tr : List Transition = steps (m .transitions) trace in
+      record {
+        only = record { unsplit = whole; turns = table-walk-law m valid .1 some };
+        shown = s .trace;
+        end = s .end;
+        path = s .path;
+        few = s .few;
+        k = s .k;
+        last = s .last;
+        first-step = omega (arith, p .1);
+        second-step = omega (arith, p .2);
+        ends = s .ends;
+        lowest = λ j f.
+            let q = two (f .trace) (f .end) (f .k) (f .later) (f .path) (f .turns .ordered) (rw length-steps at (f .turns .inside)) in
+            let e : getD (s .trace) (s .k) 0 ≡ j = cc (p .0, p .1, q .0, q .1, f .here) in
+            omega arith;
+        earliest = λ x h. absurd (omega (arith, p .1));
+        turns = turns-law (trace-ranged (m .transitions) (valid .ranged) (m .initial) (s .end) (s .trace) (s .path)) (s .k) (s .last) .1 (s .meets);
+        act-late = s .act-late;
+        act-early = s .act-early;
+        kept = s .kept;
+        turned = s .turned;
+        traced = cc (p .0);
+        stamped = cc (append-assoc (stampsOf (lateWord tr)) (stampsOf (earlyWord tr 0 1)) (drop (length stamps) s₀));
+      }
+
+  allowed : (answer : OnTable) (trace stamps : List ℕ) → Tells m answer trace stamps → TableOutcome t l₀ s₀ answer (over trace l₀) (over stamps s₀)
+  allowed Strict trace stamps (none, el, es) =
+      (passes, record { unsplit = whole; steady = λ x. let w = table-walk-law m valid .0 x in none (w .0) (w .1) }, rw el, rw es)
+  allowed (TurningTable k n) trace stamps c = (passes, answers k n trace stamps c)
+  allowed (Split i j n) trace stamps c = absurd c
+  allowed (RefusedTable r) trace stamps c = absurd c
+
+  -- every outcome that is allowed for a table is the one that its case expects
+  told : (answer : OnTable) (trace stamps : List ℕ) → Tells m answer trace stamps → (r : OnTable) (l s : List ℕ) → TableOutcome t l₀ s₀ r l s
+      → (r ≡ answer) × (l ≡ over trace l₀) × (s ≡ over stamps s₀)
+  told answer trace stamps c (RefusedTable r) l s x = absurd (passes-fails (tableTests t l₀ s₀) r passes (x .0))
+  told answer trace stamps c (Split i j n) l s x = absurd (unsplit i j (x .1 .pair .pair))
+  told Strict trace stamps (none, el, es) Strict l s x = (refl, rw el (x .2), rw es (x .3))
+  told Strict trace stamps (none, el, es) (TurningTable k n) l s x =
       let w = table-walk-law m valid .0 (x .1 .only .turns) in absurd (none (w .0) (w .1))
-  told (TurningTable k n) trace stamps c l₀ s₀ a b Strict l s x = absurd (x .1 .steady (table-walk-law m valid .1 (c .0)))
-  told (TurningTable k n) trace stamps (some, two, f, g, es, len) l₀ s₀ a b (TurningTable k' n') l s (_, y) =
+  told (TurningTable k n) trace stamps c Strict l s x = absurd (x .1 .steady (table-walk-law m valid .1 (c .0)))
+  told (TurningTable k n) trace stamps (some, two, f, g, es, len) (TurningTable k' n') l s (_, y) =
       let p = two (y .shown) (y .end) (y .k) (y .last) (y .path) (y .turns .ordered) (omega (arith, y .ends)) in
       let tr : List Transition = steps (m .transitions) trace in
       (cc, cc, cc (append-assoc (stampsOf (lateWord tr)) (stampsOf (earlyWord tr 0 1)) (drop (length stamps) s₀)))
 
 pub computed-holds : (c : Case) → Computed c → Holds c
-computed-holds (replayed t trace start stamps answer os ds) (h, e, c) = λ o₀ d₀ ho hd r o d x.
-    replay.outcome-only t trace start stamps o₀ d₀ r answer o d _ _ x (replays h start stamps e answer os ds c o₀ d₀ ho hd)
-computed-holds (judged t trace answer) (h, is, c) = λ s₀ room r s x.
-    let y = judges h is s₀ room answer c in verdict.outcome-only t trace s₀ r answer s (y .0) x (y .1) .0
-computed-holds (tabled t answer trace stamps) (sound, unsplit, c) = told t sound unsplit answer trace stamps c
+computed-holds (replayed t trace start stamps answer os ds) (h, e, c) = λ o₀ d₀ ho hd.
+    let y = replays h start stamps e answer os ds c o₀ d₀ ho hd in
+    (y, λ r o d x. replay.outcome-only t trace start stamps o₀ d₀ r answer o d _ _ x y)
+computed-holds (judged t trace answer) (h, is, c) = λ s₀ room.
+    let y = judges h is s₀ room answer c in
+    (y, λ r s x. verdict.outcome-only t trace s₀ r answer s (y .0) x (y .1) .0)
+computed-holds (tabled t answer trace stamps) (sound, unsplit, c) = λ l₀ s₀ a b.
+    (allowed t sound unsplit l₀ s₀ a b answer trace stamps c, told t sound unsplit l₀ s₀ a b answer trace stamps c)
+computed-holds (sized f) c = λ states initial h. computed-holds (f states initial) (c states initial h)

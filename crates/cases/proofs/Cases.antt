@@ -1,5 +1,5 @@
 -- Every marked case holds.
-use mathlib.Core.Path.{_≡_, refl}
+use mathlib.Core.Path.{_≡_, refl, sym}
 use mathlib.Core.List.{List, [], _∷_}
 use Prim.Native.Nat.{ℕ, zero, suc, _<_}
 use native.Mathlib.Omega.{arith}
@@ -16,8 +16,10 @@ use Rattle.model.proofs.Conversion.{order, before-linear, before-dec}
 use Rattle.table.specs.declared.Checked.the-variants.{Sound}
 use Rattle.table.specs.Rows.{tableOf, rows, cellsOf, flat}
 use Rattle.table.specs.Check.{headFine, allInRange, inRange, same, has, repeats, checkOf}
+use Rattle.table.proofs.RangeLaws.{head-true}
+use Rattle.table.proofs.CheckLaws.{check-sound}
 use Rattle.verdict.proofs.JudgeLaws.{Tested}
-use Rattle.cases.specs.Cases.{source, two, one, short, cases, Holds}
+use Rattle.cases.specs.Cases.{source, two, one, bare, short, Size, cases, Holds}
 use Rattle.cases.proofs.CaseLaws.{tested, at-once, responsesOf, OnlyTwo, computed-holds}
 
 source-tested : Tested (tableOf source) (0 ∷ 1 ∷ 2 ∷ [])
@@ -31,6 +33,12 @@ one-tested = tested 0 1 refl (omega arith)
 two-tested : (d : ℕ) → checkOf (tableOf (two d)) ≡ Sound → Tested (tableOf (two d)) (0 ∷ 1 ∷ [])
 unfolding rows cellsOf flat
 two-tested d e = tested 0 2 e (omega arith)
+
+bare-sound : (states initial : ℕ) → Size states initial → checkOf (tableOf (bare states initial)) ≡ Sound
+unfolding allInRange repeats rows
+bare-sound states initial (some, most, starts) =
+    let fine = head-true states initial .1 (record { some = some; most = most; starts = starts }) in
+    sym (check-sound (tableOf (bare states initial)) (omega arith) fine refl refl)
 
 -- transition i leads from state i to the next
 chain : (i : ℕ) → i < 2 → (at (short .transitions) i .from ≡ i) × (at (short .transitions) i .to ≡ suc i)
@@ -80,6 +88,6 @@ all-hold =
     (all-cons (two-tested _ refl, refl, omega arith)
     (all-cons (two-tested _ refl, refl, omega arith)
     (all-cons (one-tested, refl, (omega arith, refl, refl))
-    (all-cons (refl, λ i j p. omega arith, (λ i w. omega arith, refl, refl))
+    (all-cons (λ states initial h. (bare-sound states initial h, λ i j p. omega arith, (λ i w. omega arith, refl, refl)))
     (all-cons (refl, short-unsplit, ((0, short-walk), short-two, refl, refl, refl, refl))
     all-nil))))))))))))

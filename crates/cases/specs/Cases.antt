@@ -1,7 +1,7 @@
 -- 01, "Both sides of each limit": the cases marked P as data, and what it means that a call answers one as it says.
 use mathlib.Core.Path.{_≡_}
 use mathlib.Core.List.{List, [], _∷_, _++_}
-use Prim.Native.Nat.{ℕ, suc, _*_, _≤_}
+use Prim.Native.Nat.{ℕ, suc, _*_, _≤_, _<_}
 use lib.ListN.{length, drop}
 use Rattle.model.specs.Table.{Transition, Machine}
 use Rattle.table.specs.declared.Table.{Table}
@@ -24,16 +24,31 @@ pub data Case : Type 0 where
   judged : Table → List ℕ → OnTrace → Case
   -- table; the answer, and what stands first in the lent memory: the shown trace, its stamps
   tabled : Table → OnTable → List ℕ → List ℕ → Case
+  -- a case for every number of states and every initial state
+  sized : (ℕ → ℕ → Case) → Case
 
--- whatever memory of enough places is lent, the call answers so, and past what it gives the memory is as it was
+-- "A table has 1 to 32 states numbered from 0, one initial state"
+abbrev pub Size : ℕ → ℕ → Type 0
+Size states initial = (1 ≤ states) × (states ≤ 32) × (initial < states)
+
+-- what a call gives, then the memory as it was
+abbrev pub over : List ℕ → List ℕ → List ℕ
+over given lent = given ++ drop (length given) lent
+
+-- whatever memory of enough places is lent, the call is allowed to answer so, and in no other way
 abbrev pub Holds : Case → Type 0
 Holds (replayed t trace start stamps answer order due) =
-    (o₀ d₀ : List ℕ) → length trace ≤ length o₀ → length trace ≤ length d₀ → (r : Replayed) (o d : List ℕ)
-    → ReplayOutcome t trace start stamps o₀ d₀ r o d → (r ≡ answer) × (o ≡ order ++ drop (length order) o₀) × (d ≡ due ++ drop (length due) d₀)
-Holds (judged t trace answer) = (s₀ : List ℕ) → 2 * length trace ≤ length s₀ → (r : OnTrace) (s : List ℕ) → TraceOutcome t trace s₀ r s → r ≡ answer
+    (o₀ d₀ : List ℕ) → length trace ≤ length o₀ → length trace ≤ length d₀
+    → ReplayOutcome t trace start stamps o₀ d₀ answer (over order o₀) (over due d₀)
+    × ((r : Replayed) (o d : List ℕ) → ReplayOutcome t trace start stamps o₀ d₀ r o d → (r ≡ answer) × (o ≡ over order o₀) × (d ≡ over due d₀))
+Holds (judged t trace answer) =
+    (s₀ : List ℕ) → 2 * length trace ≤ length s₀
+    → ((s : List ℕ) × TraceOutcome t trace s₀ answer s) × ((r : OnTrace) (s : List ℕ) → TraceOutcome t trace s₀ r s → r ≡ answer)
 Holds (tabled t answer trace stamps) =
-    (l₀ s₀ : List ℕ) → 270 ≤ length l₀ → 540 ≤ length s₀ → (r : OnTable) (l s : List ℕ)
-    → TableOutcome t l₀ s₀ r l s → (r ≡ answer) × (l ≡ trace ++ drop (length trace) l₀) × (s ≡ stamps ++ drop (length stamps) s₀)
+    (l₀ s₀ : List ℕ) → 270 ≤ length l₀ → 540 ≤ length s₀
+    → TableOutcome t l₀ s₀ answer (over trace l₀) (over stamps s₀)
+    × ((r : OnTable) (l s : List ℕ) → TableOutcome t l₀ s₀ r l s → (r ≡ answer) × (l ≡ over trace l₀) × (s ≡ over stamps s₀))
+Holds (sized c) = (states initial : ℕ) → Size states initial → Holds (c states initial)
 
 -- from a state to the next
 abbrev step : ℕ → ℕ → ℕ → ℕ → ℕ → Transition
@@ -45,15 +60,15 @@ source = record { states = 4; initial = 0; transitions = step 0 1 5 20 40 ∷ st
 
 -- "two steps, the second with guard (3,5]": the second has d 10, so D is d less 10
 abbrev pub two : ℕ → Machine
-two d = record { states = 3; initial = 0; transitions = step 0 0 1 2 d ∷ step 1 0 3 5 10 ∷ [] }
+two d = record { states = 3; initial = 0; transitions = step 0 1 1 2 d ∷ step 1 2 3 5 10 ∷ [] }
 
 -- one step with guard (1,2]
 abbrev pub one : Machine
 one = record { states = 2; initial = 0; transitions = step 0 0 1 2 1 ∷ [] }
 
 -- "a table without transitions"
-abbrev pub bare : Machine
-bare = record { states = 1; initial = 0; transitions = [] }
+abbrev pub bare : ℕ → ℕ → Machine
+bare states initial = record { states = states; initial = initial; transitions = [] }
 
 -- "only 0→1 (1,2] d 9 and 1→2 (3,4] d 5, initial 0": no trace has 4 steps, which is p
 abbrev pub short : Machine
@@ -80,6 +95,6 @@ cases =
     onTwo 15 (Turning 1 2) ∷
     onTwo 16 Steady ∷
     replayed (tableOf one) (0 ∷ []) 4294967000 (100 ∷ []) Played (1 ∷ []) (652 ∷ []) ∷
-    tabled (tableOf bare) Strict [] [] ∷
+    sized (λ states initial. tabled (tableOf (bare states initial)) Strict [] []) ∷
     tabled (tableOf short) (TurningTable 1 2) (0 ∷ 1 ∷ []) (512 ∷ 1536 ∷ 512 ∷ 1281 ∷ []) ∷
     []

@@ -1,5 +1,6 @@
 // Document 01's replay and trace-verdict cases, run: each answer, what the call leaves in the lent memory, and whether the rest is as it was lent.
 use replay::Replayed;
+use table::Cells;
 use table::Refusal;
 use table::Table;
 use verdict::OnTrace;
@@ -166,10 +167,14 @@ fn read(file: &mut [u8], states: u16, initial: u16, end: usize) -> Table {
     a.table
 }
 
-fn source_in(file: &mut [u8], initial: u16) -> Table {
+fn put_source(file: &mut [u8]) {
     wire::put_twos(file, 8, &[16u16, 2, 0, 0, 1, 1, 5, 20, 40]);
     wire::put_twos(file, 26, &[16u16, 2, 1, 0, 2, 2, 15, 20, 30]);
     wire::put_twos(file, 44, &[16u16, 2, 2, 0, 3, 3, 10, 15, 10]);
+}
+
+fn source_in(file: &mut [u8], initial: u16) -> Table {
+    put_source(file);
     read(file, 4, initial, 62)
 }
 
@@ -179,9 +184,45 @@ fn source(initial: u16) -> Table {
     source_in(&mut file, initial)
 }
 
+fn four_in(file: &mut [u8]) -> Table {
+    put_source(file);
+    wire::put_twos(file, 62, &[16u16, 2, 0, 0, 1, 1, 5, 20, 41]);
+    read(file, 4, 0, 80)
+}
+
+// The table of 001 and a fourth transition, the first but for its d of 41.
+fn four() -> Table {
+    let mut file = [0u8; 84];
+    four_in(&mut file)
+}
+
+fn put_letter(file: &mut [u8], i: u16) {
+    let at = 8 + (i as usize) * 18;
+    wire::put_twos(file, at, &[16u16, 2, 0, i, i, 0, 1, 20, 1 + i / 16]);
+}
+
+fn put_letters(file: &mut [u8]) {
+    let mut i: u16 = 0;
+    while i < 256 {
+        put_letter(file, i);
+        i += 1;
+    }
+}
+
+fn letters_in(file: &mut [u8]) -> Table {
+    put_letters(file);
+    read(file, 1, 0, 4616)
+}
+
+// A transition for each letter, from a state to itself, with guard (1,20]; their d rise from 1 to 16.
+fn letters() -> Table {
+    let mut file = [0u8; 4620];
+    letters_in(&mut file)
+}
+
 fn two_in(file: &mut [u8], d: u16) -> Table {
-    wire::put_twos(file, 8, &[16u16, 2, 0, 0, 0, 1, 1, 2, d]);
-    wire::put_twos(file, 26, &[16u16, 2, 1, 0, 0, 2, 3, 5, 10]);
+    wire::put_twos(file, 8, &[16u16, 2, 0, 0, 1, 1, 1, 2, d]);
+    wire::put_twos(file, 26, &[16u16, 2, 1, 0, 2, 2, 3, 5, 10]);
     read(file, 3, 0, 44)
 }
 
@@ -304,17 +345,19 @@ fn with_head(t: Table, states: u16, count: usize) -> Table {
     }
 }
 
-// The cells of the first transition again, in the place of the second.
-fn repeat_first(cells: &mut [u16; 1792]) {
-    let width = 1792 / 256;
-    for i in 0..width {
-        cells[width + i] = cells[i];
+fn renumber(cells: &mut Cells, old: u16, new: u16) {
+    for i in 0..cells.len() {
+        if cells[i] == old {
+            cells[i] = new;
+        }
     }
 }
 
-fn with_pair(t: Table) -> Table {
+// The same four as a value that no file gives: the fourth is the first.
+fn four_alike() -> Table {
+    let t = four();
     let mut cells = t.cells;
-    repeat_first(&mut cells);
+    renumber(&mut cells, 41, 40);
     Table {
         states: t.states,
         initial: t.initial,
@@ -323,8 +366,14 @@ fn with_pair(t: Table) -> Table {
     }
 }
 
-// The first word on a table value that is no table.
-fn unfit(name: &[u8], t: Table) {
+// The last transition of 256, then the first, in a table value that says how many it has.
+fn counted(name: &[u8], count: usize) {
+    let t = with_head(letters(), 1, count);
+    show(name, t, &[255u16, 0], 0, &[5120u32, 5377]);
+}
+
+// The first word on a table value.
+fn value(name: &[u8], t: Table) {
     show(name, t, &[0u16, 1, 2], 0, &[2560u32, 6912, 10496]);
 }
 
@@ -336,14 +385,17 @@ fn unfit_both(name: &[u8], t: Table) {
 
 fn tables() {
     let t = source(0);
-    unfit(b"257 transitions", with_head(t, 4, 257));
-    unfit(b"number out of range", with_head(t, 3, 3));
-    unfit(b"equal pair", with_pair(t));
-    unfit(b"257 transitions, out of range", with_head(t, 3, 257));
-    unfit(b"out of range, equal pair", with_pair(with_head(t, 3, 3)));
+    let pair = four_alike();
+    counted(b"256 transitions", 256);
+    counted(b"257 transitions", 257);
+    value(b"number out of range", with_head(t, 3, 3));
+    value(b"two unlike in d alone", four());
+    value(b"equal pair", pair);
+    value(b"257 transitions, out of range", with_head(t, 3, 257));
+    value(b"out of range, equal pair", with_head(pair, 3, 4));
     unfit_both(b"257 transitions, empty trace", with_head(t, 4, 257));
     unfit_both(b"out of range, empty trace", with_head(t, 3, 3));
-    unfit_both(b"equal pair, empty trace", with_pair(t));
+    unfit_both(b"equal pair, empty trace", pair);
 }
 
 // Stamps a gap apart.
@@ -399,16 +451,24 @@ fn judge_lists() {
     judge_in(b"not joined, no room", source(0), &[0u16, 2, 1], &mut short);
 }
 
+fn judge_counted(name: &[u8], count: usize) {
+    judge(name, with_head(letters(), 1, count), &[255u16, 0]);
+}
+
 fn judge_tables() {
     let t = source(0);
     let none = [0u16];
+    judge_counted(b"256 transitions", 256);
+    judge_counted(b"257 transitions", 257);
+    judge(b"two unlike in d alone", four(), &[0u16, 1, 2]);
+    judge(b"equal pair", four_alike(), &[0u16, 1, 2]);
     judge(
         b"257 transitions, empty trace",
         with_head(t, 4, 257),
         &none[..0],
     );
     judge(b"out of range, empty trace", with_head(t, 3, 3), &none[..0]);
-    judge(b"equal pair, empty trace", with_pair(t), &none[..0]);
+    judge(b"equal pair, empty trace", four_alike(), &none[..0]);
 }
 
 fn judge_long() {

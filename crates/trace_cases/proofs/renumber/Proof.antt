@@ -1,28 +1,25 @@
 use borrow.Author.Needs.{needs}
 use Prim.Native.Nat.{_≤_, _-_}
-use Rattle.trace_cases.proofs.repeat_first.Statement.{statement}
-use Rattle.trace_cases.proofs.repeat_first.Tie as tie
+use Rattle.trace_cases.proofs.renumber.Statement.{statement}
+use Rattle.trace_cases.proofs.renumber.Tie as tie
 
 abbrev Inv-loop : tie.InvT-loop
-Inv-loop cells₀ width i₀ cells i = i ≤ width
+Inv-loop cells₀ old new i₀ cells i = i ≤ 1792
 
 abbrev μ-loop : tie.MeasureT-loop
-μ-loop cells₀ width i₀ cells i = width - i
+μ-loop cells₀ old new i₀ cells i = 1792 - i
 
 loop-holds : tie.Need-loop-holds Inv-loop μ-loop
 loop-holds c = search needs
 
+mul-if1 : tie.Need-mul-if1 Inv-loop μ-loop
+mul-if1 c = search needs
+
+element-copy-out-if1 : tie.Need-element-copy-out-if1 Inv-loop μ-loop
+element-copy-out-if1 c = search needs
+
 mul-cells : tie.Need-mul-cells Inv-loop μ-loop
 mul-cells c = search needs
-
-element-copy-out-cells : tie.Need-element-copy-out-cells Inv-loop μ-loop
-element-copy-out-cells c = search needs
-
-add-cells : tie.Need-add-cells Inv-loop μ-loop
-add-cells c = search needs
-
-mul-cells-2 : tie.Need-mul-cells-2 Inv-loop μ-loop
-mul-cells-2 c = search needs
 
 element-write-cells : tie.Need-element-write-cells Inv-loop μ-loop
 element-write-cells c = search needs
@@ -39,17 +36,16 @@ loop-again c = search needs
 returns : tie.Need-returns Inv-loop μ-loop
 returns c = search needs
 
-pub repeat-first-spec : {M : Type 1} → statement M
-repeat-first-spec =
+pub renumber-spec : {M : Type 1} → statement M
+renumber-spec =
     tie.close
     (tie.spec
     Inv-loop
     μ-loop
     loop-holds
+    mul-if1
+    element-copy-out-if1
     mul-cells
-    element-copy-out-cells
-    add-cells
-    mul-cells-2
     element-write-cells
     add-i
     loop-less
