@@ -3,43 +3,16 @@
 # random tables, bad texts and their line numbers, damaged files and their number
 # and offset. The last line is 'N passed, 0 failed'.
 
-set -u
-shopt -s lastpipe  # so that a case at the end of a pipe is counted
-root=$(cd "$(dirname "$0")/.." && pwd) || exit 1
+# shellcheck source=tests/common.sh
+. "$(dirname "$0")/common.sh" || exit 1
 table=$root/tools/table
 python=$(python3 -c 'import sys; print(sys.executable)') || exit 1
-work=$(mktemp -d) || exit 1
-trap 'rm -rf "$work"' EXIT
-cd "$work" || exit 1
-
-passed=0
-failed=0
-
-# verdict NAME STATUS: counts a case, which passed if the status is 0.
-verdict() {
-    if [ "$2" -eq 0 ]; then
-        passed=$((passed + 1))
-    else
-        failed=$((failed + 1))
-        echo "failed: $1"
-    fi
-}
 
 # run ARGUMENT...: calls the tool; its output is in out and err, its status in $status.
 # Python comes without its site packages: the tool needs none, and it starts sooner.
 run() {
     "$python" -I -S "$table" "$@" >out 2>err </dev/null
     status=$?
-}
-
-# bytes HEX...: writes bytes given as hexadecimal digits.
-bytes() {
-    local digits="$*" escaped='' i
-    digits=${digits// /}
-    for ((i = 0; i < ${#digits}; i += 2)); do
-        escaped+="\\x${digits:i:2}"
-    done
-    printf '%b' "$escaped"
 }
 
 # ---- Known texts and files ----
@@ -306,5 +279,4 @@ for cut in 0 1 3 4 7 8 9 12 25 26 27 30 43 44 47 48 61 62 63 65; do
     head -c "$cut" "$root/examples/source-trace.bin" | refused 1 $at "cut to $cut bytes"
 done
 
-echo "$passed passed, $failed failed"
-[ "$failed" -eq 0 ]
+finish

@@ -1,0 +1,37 @@
+# What the test scripts share: sourced, not run. The working folder is a new one, removed at the end.
+
+set -u
+shopt -s lastpipe  # so that a case at the end of a pipe is counted
+root=$(cd "$(dirname "${BASH_SOURCE[0]}")/.." && pwd) || exit 1
+work=$(mktemp -d) || exit 1
+trap 'rm -rf "$work"' EXIT
+cd "$work" || exit 1
+
+passed=0
+failed=0
+
+# verdict NAME STATUS: counts a case, which passed if the status is 0.
+verdict() {
+    if [ "$2" -eq 0 ]; then
+        passed=$((passed + 1))
+    else
+        failed=$((failed + 1))
+        echo "failed: $1"
+    fi
+}
+
+# bytes HEX...: writes bytes given as hexadecimal digits.
+bytes() {
+    local digits="$*" escaped='' i
+    digits=${digits// /}
+    for ((i = 0; i < ${#digits}; i += 2)); do
+        escaped+="\\x${digits:i:2}"
+    done
+    printf '%b' "$escaped"
+}
+
+# The last line, and the status of the whole.
+finish() {
+    echo "$passed passed, $failed failed"
+    [ "$failed" -eq 0 ]
+}
