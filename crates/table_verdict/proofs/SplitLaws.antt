@@ -14,27 +14,20 @@ use Rattle.model.specs.Table.{Transition, at}
 use Rattle.model.specs.Verdict.{SplitPair, Overlap}
 use Rattle.table_verdict.specs.declared.split.Found.the-variants.{Pair, Nothing}
 use Rattle.table_verdict.specs.Reach.{mark, MarksReached}
-use Rattle.table_verdict.specs.Split.{Decides, Forks, MarkedPair, Partner, SplitOf}
+use Rattle.table_verdict.specs.Split.{Forks, MarkedPair, Partner, SplitOf}
+use Rattle.table_verdict.specs.Walks.{Tells}
 
 -- tests and what they say
-pub decides-lt : (a b : ℕ) → Decides (ltb a b) (a < b)
-decides-lt a b = by (ltb a b) refl
+pub tells-lt : (a b : ℕ) → Tells (ltb a b) (a < b)
+tells-lt a b = by (ltb a b) refl
   where
-    by : (x : Bool) → ltb a b ≡ x → Decides x (a < b)
+    by : (x : Bool) → ltb a b ≡ x → Tells x (a < b)
     by true e = ltb-true a b e
     by false e = λ h. omega (arith, ltb-false a b e)
 
-pub decides-true : {P : Type 0} (b : Bool) → Decides b P → b ≡ true → P
-decides-true true d e = d
-decides-true false d e = let z : _≡_ {A = ℕ} 0 1 = cc in absurd (omega arith)
-
-pub decides-false : {P : Type 0} (b : Bool) → Decides b P → b ≡ false → P → ⊥
-decides-false true d e p = let z : _≡_ {A = ℕ} 0 1 = cc in omega arith
-decides-false false d e p = d p
-
-pub decides-forks : (b : Bool) (s t : Transition) → t .from ≡ s .from → t .input ≡ s .input → Decides b (Overlap s t) → Decides b (Forks s t)
-decides-forks true s t p q d = record { together = p; alike = q; overlap = d }
-decides-forks false s t p q d = λ f. d (f .overlap)
+pub tells-forks : (b : Bool) (s t : Transition) → t .from ≡ s .from → t .input ≡ s .input → Tells b (Overlap s t) → Tells b (Forks s t)
+tells-forks true s t p q d = record { together = p; alike = q; overlap = d }
+tells-forks false s t p q d = λ f. d (f .overlap)
 
 -- no pair begins with a number below i
 abbrev pub Clear : List Transition → List ℕ → ℕ → Type 0

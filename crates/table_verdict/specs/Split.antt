@@ -1,6 +1,5 @@
 -- The first split pair.
 use mathlib.Core.Path.{_≡_}
-use mathlib.Core.Bool.{Bool, true, false}
 use mathlib.Core.List.{List}
 use Prim.Native.Nat.{ℕ, _≤_, _<_}
 use lib.ListN.{length}
@@ -10,11 +9,6 @@ use Rattle.table_verdict.specs.declared.split.Found.{Found}
 use Rattle.table_verdict.specs.declared.split.Found.the-variants.{Pair, Nothing}
 use Rattle.table_verdict.specs.Reach.{mark, MarksReached}
 use Rattle.table_verdict.specs.OnTable.{LeastSplit}
-
--- a test that says whether P
-abbrev pub Decides : Bool → Type 0 → Type 0
-Decides true P = P
-Decides false P = P → ⊥
 
 -- "two transitions with one input and overlapping guards", leaving one state
 pub record Forks (s t : Transition) : Type 0 where

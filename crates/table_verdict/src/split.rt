@@ -8,7 +8,8 @@ ghost use lib.ListN.{length};
 ghost use Rattle.model.specs.Verdict.{Overlap};
 ghost use Rattle.table.specs.Rows.{rows, said};
 ghost use Rattle.table_verdict.specs.Sound.{Sound};
-ghost use Rattle.table_verdict.specs.Split.{Decides, Forks, Partner, SplitOf};
+ghost use Rattle.table_verdict.specs.Split.{Forks, Partner, SplitOf};
+ghost use Rattle.table_verdict.specs.Walks.{Tells};
 
 pub(crate) enum Found {
     Pair(usize, usize),
@@ -31,14 +32,14 @@ pub(crate) fn lesser(a: u16, b: u16) -> u16
 
 // Whether two guards overlap: greater u below lesser v.
 fn overlap(r: Row, s: Row) -> bool
-    ensures { λ b. ⌜ Decides b (Overlap (said r) (said s)) ⌝ }
+    ensures { λ b. ⌜ Tells b (Overlap (said r) (said s)) ⌝ }
 {
     greater(r.u, s.u) < lesser(r.v, s.v)
 }
 
 // Whether two transitions leave one state with one input and overlapping guards.
 fn forks(r: Row, s: Row) -> bool
-    ensures { λ b. ⌜ Decides b (Forks (said r) (said s)) ⌝ }
+    ensures { λ b. ⌜ Tells b (Forks (said r) (said s)) ⌝ }
 {
     if s.from != r.from {
         return false;

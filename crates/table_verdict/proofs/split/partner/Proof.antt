@@ -12,7 +12,8 @@ use Rattle.table.proofs.RowLaws.{length-rows}
 use Rattle.table_verdict.specs.Reach.{mark}
 use Rattle.table_verdict.specs.Split.{MarkedPair}
 use Rattle.table_verdict.proofs.SoundLaws.{row-said, row-leaves}
-use Rattle.table_verdict.proofs.SplitLaws.{decides-true, decides-false, partner-none}
+use Rattle.table_verdict.proofs.SplitLaws.{partner-none}
+use Rattle.table_verdict.proofs.WalkLaws.{told, untold}
 use Rattle.table_verdict.proofs.split.partner.Statement.{statement}
 use Rattle.table_verdict.proofs.split.partner.Tie as tie
 
@@ -64,7 +65,7 @@ returns-2 c =
     let l = c .before .before .before .before .loop in
     let p = row-said (s .pre .0) (a .i) (s .pre .2) (c .before .before .before .before .before .before .before .before .row-of .ensures) in
     let q = row-said (s .pre .0) (l .j) (c .before .before .before .loop-test .taken) (c .before .before .row-of2 .ensures) in
-    let f = decides-true (c .before .forks .result) (c .before .forks .ensures) (c .if2 .taken) in
+    let f = told (c .before .forks .result) (c .before .forks .ensures) (c .if2 .taken) in
     let n = length-rows (a .cells .now) (a .count) in
     record {
       within = omega arith;
@@ -90,7 +91,7 @@ loop-again c =
     let l = c .before .before .before .before .loop in
     let p = row-said (s .pre .0) (a .i) (s .pre .2) (c .before .before .before .before .before .before .before .before .row-of .ensures) in
     let q = row-said (s .pre .0) (l .j) (c .before .before .before .loop-test .taken) (c .before .before .row-of2 .ensures) in
-    let f = decides-false (c .before .forks .result) (c .before .forks .ensures) (c .if2 .left) in (
+    let f = untold (c .before .forks .result) (c .before .forks .ensures) (c .if2 .left) in (
       omega arith,
       omega arith,
       below-more (λ y. MarkedPair (rows (a .cells .now) (a .count)) (a .dist .now) (a .i) y → ⊥) (l .j) (l .inv .2) (λ m. rw (p, q) at f (m .forks)),
