@@ -25,7 +25,7 @@ uint64_t base_rewrite(const uint8_t *, size_t, uint8_t *, size_t);
 
 enum { JUDGE, JUDGE_TRACE, REPLAY, REWRITE, CALLS };
 enum { LIBRARY, BASELINE };
-enum { ROUNDS = 51, MAX_WORKS = 40 };
+enum { LEAST_ROUNDS = 51, MOST_ROUNDS = 1001, MAX_WORKS = 40 };
 
 static const char *const call_names[CALLS] = { "judge", "judge_trace", "replay", "rewrite" };
 
@@ -102,21 +102,23 @@ static double tenth(double *numbers, unsigned count)
     return numbers[count / 10];
 }
 
-/* Both by turns, in many short runs. */
+/* Both by turns, in many short runs: a second of them where that is more than the least number. */
 static void measure(struct work *w)
 {
-    double of[2][ROUNDS];
-    unsigned times = 1;
+    static double of[2][MOST_ROUNDS];
+    unsigned times = 1, rounds = 0;
     while (seconds(BASELINE, w, times) * times < 0.0005)
         times *= 2;
     seconds(LIBRARY, w, times);
-    for (unsigned i = 0; i < ROUNDS; i++) {
-        int first = i % 2 == 0 ? LIBRARY : BASELINE;
-        of[first][i] = seconds(first, w, times);
-        of[1 - first][i] = seconds(1 - first, w, times);
+    double began = now();
+    while (rounds < LEAST_ROUNDS || (rounds < MOST_ROUNDS && now() - began < 1)) {
+        int first = rounds % 2 == 0 ? LIBRARY : BASELINE;
+        of[first][rounds] = seconds(first, w, times);
+        of[1 - first][rounds] = seconds(1 - first, w, times);
+        rounds++;
     }
-    w->time[LIBRARY] = tenth(of[LIBRARY], ROUNDS);
-    w->time[BASELINE] = tenth(of[BASELINE], ROUNDS);
+    w->time[LIBRARY] = tenth(of[LIBRARY], rounds);
+    w->time[BASELINE] = tenth(of[BASELINE], rounds);
 }
 
 /* ---- stack ---- */

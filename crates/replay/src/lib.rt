@@ -18,7 +18,8 @@ pub enum Replayed {
 fn tested(t: Table, trace: &[u16], stamps: &[u32], order: &[u16], due: &[u32]) -> Checked
     ensures { λ r. ⌜ Answers (replayTests t (now (trace .entry)) (now (stamps .entry)) (now (order .entry)) (now (due .entry))) r ⌝ }
 {
-    if let Checked::Refused(r) = table::check(t) {
+    let checked = table::check_parts(t.states, t.initial, t.count, &t.cells);
+    if let Checked::Refused(r) = checked {
         return Checked::Refused(r);
     }
     if !trace::is_trace(&t.cells, t.count, trace) {

@@ -47,6 +47,10 @@ unfoldable pub rows : List ℕ → ℕ → List Transition
 rows c zero = []
 rows c (suc n) = rows c n ++ (said (rowAt c n) ∷ [])
 
+-- the table value of these parts
+abbrev pub tableIn : ℕ → ℕ → ℕ → List ℕ → Table
+tableIn states initial count cells = record { states = states; initial = initial; count = count; cells = cells }
+
 -- the machine of a table value: "what a table value holds beyond its last transition is never looked at"
 abbrev pub machineOf : Table → Machine
 machineOf t = record { states = t .states; initial = t .initial; transitions = rows (t .cells) (t .count) }

@@ -1,7 +1,7 @@
 // The table value, its check, its reader and its writer.
 ghost use mathlib.Core.Path.{_≡_};
 ghost use Rattle.table.specs.Refusal.{refusalNumber, refusalPlace};
-ghost use Rattle.table.specs.Rows.{rowOf};
+ghost use Rattle.table.specs.Rows.{rowOf, tableIn};
 ghost use Rattle.table.specs.Check.{checkOf};
 ghost use Rattle.table.specs.File.{readingOf, readFile};
 ghost use Rattle.table.specs.Write.{WriteOutcome};
@@ -132,24 +132,30 @@ pub fn row_of(cells: &Cells, i: usize) -> Row
     rows::row_at(cells, i)
 }
 
-// The check of a table value: 3, then 4, then 5, at place 0.
-pub fn check(t: Table) -> Checked
-    ensures { λ r. ⌜ r ≡ checkOf t ⌝ }
+// The check of a table that is lent in parts: 3, then 4, then 5, at place 0.
+pub fn check_parts(states: u16, initial: u16, count: usize, cells: &Cells) -> Checked
+    ensures { λ r. ⌜ r ≡ checkOf (tableIn states initial count (now (cells .entry))) ⌝ }
 {
-    let n = t.count;
-    if 256 < n {
+    if 256 < count {
         return Checked::Refused(Refusal::Full(0));
     }
-    if !ranges::head_fine(t.states, t.initial) {
+    if !ranges::head_fine(states, initial) {
         return Checked::Refused(Refusal::OutOfRange(0));
     }
-    if !ranges::all_in_range(&t.cells, n, t.states) {
+    if !ranges::all_in_range(cells, count, states) {
         return Checked::Refused(Refusal::OutOfRange(0));
     }
-    if ranges::any_repeated(&t.cells, n) {
+    if ranges::any_repeated(cells, count) {
         return Checked::Refused(Refusal::Repeated(0));
     }
     Checked::Sound
+}
+
+// The check of a table value.
+pub fn check(t: Table) -> Checked
+    ensures { λ r. ⌜ r ≡ checkOf t ⌝ }
+{
+    check_parts(t.states, t.initial, t.count, &t.cells)
 }
 
 // The table of a file, or the number and the offset of its first refusal with the table of one state and no transitions.
@@ -182,7 +188,7 @@ pub fn read_table(file: &[u8]) -> Reading
 pub fn write_table(t: Table, out: &mut [u8]) -> Written
     ensures { λ r. ⌜ WriteOutcome t (now (out .entry)) r (now (out .exit)) ⌝ }
 {
-    let checked = check(t);
+    let checked = check_parts(t.states, t.initial, t.count, &t.cells);
     if let Checked::Refused(r) = checked {
         return Written::Refused(r);
     }

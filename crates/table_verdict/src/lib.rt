@@ -1,8 +1,10 @@
 // The verdict on a whole table.
+use table::Cells;
 use table::Checked;
 use table::Refusal;
 use table::Table;
 ghost use mathlib.Core.Path.{_≡_};
+ghost use Rattle.table.specs.Rows.{tableIn};
 ghost use Rattle.table_verdict.specs.OnTable.{TableOutcome};
 
 mod decide;
@@ -20,11 +22,19 @@ pub enum OnTable {
     Refused(Refusal),
 }
 
-// Strict, split or turning, with a trace and its words to play; a refusal, and strict, write nothing.
-pub fn judge_table(t: Table, trace: &mut [u16], stamps: &mut [u32]) -> OnTable
-    ensures { λ r. ⌜ TableOutcome t (now (trace .entry)) (now (stamps .entry)) r (now (trace .exit)) (now (stamps .exit)) ⌝ }
+// The verdict on a table that is lent in parts: strict, split or turning, with a trace and its words to play. A refusal, and strict,
+// write nothing.
+pub fn judge_parts(
+    states: u16,
+    initial: u16,
+    count: usize,
+    cells: &Cells,
+    trace: &mut [u16],
+    stamps: &mut [u32],
+) -> OnTable
+    ensures { λ r. ⌜ TableOutcome (tableIn states initial count (now (cells .entry))) (now (trace .entry)) (now (stamps .entry)) r (now (trace .exit)) (now (stamps .exit)) ⌝ }
 {
-    let checked = table::check(t);
+    let checked = table::check_parts(states, initial, count, cells);
     if let Checked::Refused(r) = checked {
         return OnTable::Refused(r);
     }
@@ -36,13 +46,12 @@ pub fn judge_table(t: Table, trace: &mut [u16], stamps: &mut [u32]) -> OnTable
     }
     let mut dist = [0u16; 32];
     let mut via = [0u16; 32];
-    decide::decide(
-        &t.cells,
-        t.count,
-        t.initial,
-        &mut dist,
-        &mut via,
-        trace,
-        stamps,
-    )
+    decide::decide(cells, count, initial, &mut dist, &mut via, trace, stamps)
+}
+
+// The verdict on a table value.
+pub fn judge_table(t: Table, trace: &mut [u16], stamps: &mut [u32]) -> OnTable
+    ensures { λ r. ⌜ TableOutcome t (now (trace .entry)) (now (stamps .entry)) r (now (trace .exit)) (now (stamps .exit)) ⌝ }
+{
+    judge_parts(t.states, t.initial, t.count, &t.cells, trace, stamps)
 }

@@ -18,7 +18,7 @@ pub enum OnTrace {
 pub fn judge_trace(t: Table, trace: &[u16], stamps: &mut [u32]) -> OnTrace
     ensures { λ r. ⌜ TraceOutcome t (now (trace .entry)) (now (stamps .entry)) r (now (stamps .exit)) ⌝ }
 {
-    let checked = table::check(t);
+    let checked = table::check_parts(t.states, t.initial, t.count, &t.cells);
     if let Checked::Refused(r) = checked {
         return OnTrace::Refused(r);
     }

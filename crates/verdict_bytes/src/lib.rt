@@ -29,5 +29,16 @@ pub fn judge_table_bytes(file: &[u8], trace: &mut [u8], stamps: &mut [u8]) -> On
     if let Checked::Refused(r) = read {
         return OnTable::Refused(r);
     }
-    tables::judge_on(a.table, trace, stamps)
+    let mut steps = [0u16; 270];
+    let mut marks = [0u32; 540];
+    tables::judge_on(
+        a.table.states,
+        a.table.initial,
+        a.table.count,
+        &a.table.cells,
+        trace,
+        stamps,
+        &mut steps,
+        &mut marks,
+    )
 }

@@ -1,29 +1,36 @@
-// The verdict on a table that was read, shown in bytes.
+// The verdict on a table that was read, shown in bytes. The table is lent in parts, for a table by value is copied.
+use table::Cells;
 use table::Refusal;
-use table::Table;
 use table_verdict::OnTable;
 ghost use mathlib.Core.Path.{_≡_};
 ghost use lib.ListN.{length};
 ghost use Rattle.table.specs.declared.Checked.the-variants.{Sound};
-ghost use Rattle.table.specs.Rows.{machineOf};
+ghost use Rattle.table.specs.Rows.{machineOf, tableIn};
 ghost use Rattle.table.specs.Check.{checkOf};
-ghost use Rattle.table.specs.Tests.{Passes};
-ghost use Rattle.verdict_bytes.specs.Tables.{TableOnMachine, roomTests};
+ghost use Rattle.verdict_bytes.specs.Tables.{TableOnMachine};
 
-// The call on values, and the used places written back.
-fn call(
-    t: Table,
+// Tests the room, makes the call on values, and writes the used places back.
+pub(crate) fn judge_on(
+    states: u16,
+    initial: u16,
+    count: usize,
+    cells: &Cells,
     trace: &mut [u8],
     stamps: &mut [u8],
     steps: &mut [u16],
     marks: &mut [u32],
 ) -> OnTable
     requires { ⌜ (length (now steps) ≡ 270) × (length (now marks) ≡ 540) ⌝ }
-    requires { ⌜ Passes (roomTests (now trace) (now stamps)) ⌝ }
-    requires { ⌜ checkOf t ≡ Sound ⌝ }
-    ensures { λ r. ⌜ TableOnMachine (machineOf t) (now (trace .entry)) (now (stamps .entry)) r (now (trace .exit)) (now (stamps .exit)) ⌝ }
+    requires { ⌜ checkOf (tableIn states initial count (now cells)) ≡ Sound ⌝ }
+    ensures { λ r. ⌜ TableOnMachine (machineOf (tableIn states initial count (now (cells .entry)))) (now (trace .entry)) (now (stamps .entry)) r (now (trace .exit)) (now (stamps .exit)) ⌝ }
 {
-    let r = table_verdict::judge_table(t, steps, marks);
+    if trace.len() / 2 < 270 {
+        return OnTable::Refused(Refusal::NoRoom);
+    }
+    if stamps.len() / 4 < 540 {
+        return OnTable::Refused(Refusal::NoRoom);
+    }
+    let r = table_verdict::judge_parts(states, initial, count, cells, steps, marks);
     match r {
         OnTable::Strict => OnTable::Strict,
         OnTable::Refused(x) => OnTable::Refused(x),
@@ -38,20 +45,4 @@ fn call(
             OnTable::Turning(k, m)
         }
     }
-}
-
-// Tests the room and makes the call.
-pub(crate) fn judge_on(t: Table, trace: &mut [u8], stamps: &mut [u8]) -> OnTable
-    requires { ⌜ checkOf t ≡ Sound ⌝ }
-    ensures { λ r. ⌜ TableOnMachine (machineOf t) (now (trace .entry)) (now (stamps .entry)) r (now (trace .exit)) (now (stamps .exit)) ⌝ }
-{
-    if trace.len() / 2 < 270 {
-        return OnTable::Refused(Refusal::NoRoom);
-    }
-    if stamps.len() / 4 < 540 {
-        return OnTable::Refused(Refusal::NoRoom);
-    }
-    let mut steps = [0u16; 270];
-    let mut marks = [0u32; 540];
-    call(t, trace, stamps, &mut steps, &mut marks)
 }

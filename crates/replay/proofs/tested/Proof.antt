@@ -6,17 +6,17 @@ use Rattle.replay.proofs.ReplayLaws.{fails-table, fails-trace, fails-st
 use Rattle.replay.proofs.tested.Statement.{statement}
 use Rattle.replay.proofs.tested.Tie as tie
 
-check-requires : tie.Need-check-requires
-check-requires c κs = search needs
+check-parts-requires : tie.Need-check-parts-requires
+check-parts-requires c κs = search needs
 
-enum-known-r : tie.Need-enum-known-r
-enum-known-r c = search needs
+enum-known-checked : tie.Need-enum-known-checked
+enum-known-checked c = search needs
 
 returns : tie.Need-returns
 returns c =
-    let a = c .before .before .before .before .before .before .before .before .args in
+    let a = c .before .before .before .before .before .before .before .before .before .before .args in
     fails-table (a .t1) (a .trace .now) (a .stamps .now) (a .order .now) (a .due .now)
-    (sym (c .before .before .before .check .ensures) ∙ c .before .r .given .1)
+    (sym (c .before .before .before .check-parts .ensures) ∙ c .before .checked .given .1)
 
 enum-told : tie.Need-enum-told
 enum-told c = search needs
@@ -27,39 +27,39 @@ is-trace-requires c κs = search needs
 returns-2 : tie.Need-returns-2
 returns-2 c =
     let p = c .before in
-    let a = p .before .before .before .before .before .before .before .before .before .before .args in
-    let sound = sym (p .before .before .before .before .before .check .ensures) ∙ p .before .before .before .enum-told .given .1 in
+    let a = p .before .before .before .before .before .before .before .before .before .before .before .before .args in
+    let sound = sym (p .before .before .before .before .before .check-parts .ensures) ∙ p .before .before .before .enum-told .given .1 in
     fails-trace (a .t1) (a .trace .now) (a .stamps .now) (a .order .now) (a .due .now) sound (p .is-trace .ensures .wrong (not-true _ (c .if1 .taken)))
 
 returns-3 : tie.Need-returns-3
 returns-3 c =
     let p = c .before .before in
-    let a = p .before .before .before .before .before .before .before .before .before .before .args in
-    let sound = sym (p .before .before .before .before .before .check .ensures) ∙ p .before .before .before .enum-told .given .1 in
+    let a = p .before .before .before .before .before .before .before .before .before .before .before .before .args in
+    let sound = sym (p .before .before .before .before .before .check-parts .ensures) ∙ p .before .before .before .enum-told .given .1 in
     let traced = p .is-trace .ensures .right (not-false _ (c .before .if1 .left)) in
     fails-stamps (a .t1) (a .trace .now) (a .stamps .now) (a .order .now) (a .due .now) sound traced (λ e. omega arith)
 
 returns-4 : tie.Need-returns-4
 returns-4 c =
     let p = c .before .before .before in
-    let a = p .before .before .before .before .before .before .before .before .before .before .args in
-    let sound = sym (p .before .before .before .before .before .check .ensures) ∙ p .before .before .before .enum-told .given .1 in
+    let a = p .before .before .before .before .before .before .before .before .before .before .before .before .args in
+    let sound = sym (p .before .before .before .before .before .check-parts .ensures) ∙ p .before .before .before .enum-told .given .1 in
     let traced = p .is-trace .ensures .right (not-false _ (c .before .before .if1 .left)) in
     fails-room (a .t1) (a .trace .now) (a .stamps .now) (a .order .now) (a .due .now) sound traced (omega arith) (λ h. omega arith)
 
 returns-5 : tie.Need-returns-5
 returns-5 c =
     let p = c .before .before .before .before in
-    let a = p .before .before .before .before .before .before .before .before .before .before .args in
-    let sound = sym (p .before .before .before .before .before .check .ensures) ∙ p .before .before .before .enum-told .given .1 in
+    let a = p .before .before .before .before .before .before .before .before .before .before .before .before .args in
+    let sound = sym (p .before .before .before .before .before .check-parts .ensures) ∙ p .before .before .before .enum-told .given .1 in
     let traced = p .is-trace .ensures .right (not-false _ (c .before .before .before .if1 .left)) in
     fails-room (a .t1) (a .trace .now) (a .stamps .now) (a .order .now) (a .due .now) sound traced (omega arith) (λ h. omega arith)
 
 returns-6 : tie.Need-returns-6
 returns-6 c =
     let p = c .before .before .before .before in
-    let a = p .before .before .before .before .before .before .before .before .before .before .args in
-    let sound = sym (p .before .before .before .before .before .check .ensures) ∙ p .before .before .before .enum-told .given .1 in
+    let a = p .before .before .before .before .before .before .before .before .before .before .before .before .args in
+    let sound = sym (p .before .before .before .before .before .check-parts .ensures) ∙ p .before .before .before .enum-told .given .1 in
     let traced = p .is-trace .ensures .right (not-false _ (c .before .before .before .if1 .left)) in
     passes-all (a .t1) (a .trace .now) (a .stamps .now) (a .order .now) (a .due .now) sound traced (omega arith) (omega arith) (omega arith)
 
@@ -67,8 +67,8 @@ pub tested-spec : {M : Type 1} → statement M
 tested-spec =
     tie.close
     (tie.spec
-    check-requires
-    enum-known-r
+    check-parts-requires
+    enum-known-checked
     returns
     enum-told
     is-trace-requires

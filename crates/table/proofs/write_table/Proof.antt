@@ -12,39 +12,39 @@ use Rattle.table.proofs.write_table.Statement.{statement}
 use Rattle.table.proofs.write_table.Tie as tie
 use Rattle.table.proofs.write_table.Reads as reads
 use Rattle.table.proofs.write_table.Lts as lts
-use Rattle.table.proofs.check.Reads as check-reads
+use Rattle.table.proofs.check_parts.Reads as check-parts-reads
 use Rattle.table.proofs.writer.put_end.Reads as put-end-reads
 use Rattle.table.proofs.writer.put_head.Reads as put-head-reads
 use Rattle.table.proofs.writer.put_rows.Reads as put-rows-reads
 
-check-requires : tie.Need-check-requires
-check-requires c κs = search needs
+check-parts-requires : tie.Need-check-parts-requires
+check-parts-requires c κs = search needs
 
 enum-known-checked : tie.Need-enum-known-checked
 enum-known-checked c = search needs
 
 returns : tie.Need-returns
-returns c = write-refused (c .before .before .before .before .before .args .t1) (c .before .before .before .before .before .args .out .now) _ (sym (c .before .before .before .check .ensures) ∙ c .before .checked .given .1)
+returns c = write-refused (c .before .before .before .before .before .before .before .args .t1) (c .before .before .before .before .before .before .before .args .out .now) _ (sym (c .before .before .before .check-parts .ensures) ∙ c .before .checked .given .1)
 
 enum-told : tie.Need-enum-told
 enum-told c = search needs
 
 mul-size : tie.Need-mul-size
-mul-size c = omega (arith, sound-valid (c .before .before .before .before .args .t1) (sym (c .before .before .check .ensures) ∙ c .enum-told .given .1) .0)
+mul-size c = omega (arith, sound-valid (c .before .before .before .before .before .before .args .t1) (sym (c .before .before .check-parts .ensures) ∙ c .enum-told .given .1) .0)
 
 add-size : tie.Need-add-size
-add-size c = omega (arith, sound-valid (c .before .before .before .before .args .t1) (sym (c .before .before .check .ensures) ∙ c .enum-told .given .1) .0)
+add-size c = omega (arith, sound-valid (c .before .before .before .before .before .before .args .t1) (sym (c .before .before .check-parts .ensures) ∙ c .enum-told .given .1) .0)
 
 returns-2 : tie.Need-returns-2
-returns-2 c = write-short (c .before .before .before .before .before .args .t1) (c .before .before .before .before .before .args .out .now) (sym (c .before .before .before .check .ensures) ∙ c .before .enum-told .given .1) (c .if1 .taken)
+returns-2 c = write-short (c .before .before .before .before .before .before .before .args .t1) (c .before .before .before .before .before .before .before .args .out .now) (sym (c .before .before .before .check-parts .ensures) ∙ c .before .enum-told .given .1) (c .if1 .taken)
 
 put-head-requires : tie.Need-put-head-requires
 put-head-requires c κs = search needs
 
 put-rows-requires : tie.Need-put-rows-requires
 put-rows-requires c κs =
-    let a = c .before .before .before .before .before .before .before .before .before .before .before .before .args in
-    let e = sym (c .before .before .before .before .before .before .before .before .before .before .check .ensures) ∙ c .before .before .before .before .before .before .before .before .enum-told .given .1 in
+    let a = c .before .before .before .before .before .before .before .before .before .before .before .before .before .before .args in
+    let e = sym (c .before .before .before .before .before .before .before .before .before .before .check-parts .ensures) ∙ c .before .before .before .before .before .before .before .before .enum-told .given .1 in
     (sound-valid (a .t1) e .0, omega (arith, head-long (a .t1) (a .out .now) _ (c .before .before .before .before .before .before .before .if1 .left) (c .before .before .before .before .before .put-head .ensures), c .before .before .before .before .before .before .before .if1 .left))
 
 mul-put-end : tie.Need-mul-put-end
@@ -61,15 +61,15 @@ same-length c = search needs
 
 returns-3 : tie.Need-returns-3
 returns-3 c =
-    let a = c .before .before .before .before .before .before .before .before .before .before .before .before .before .before .before .before .before .before .before .args in
-    write-done (a .t1) (a .out .now) _ _ _ (sym (c .before .before .before .before .before .before .before .before .before .before .before .before .before .before .before .before .before .check .ensures) ∙ c .before .before .before .before .before .before .before .before .before .before .before .before .before .before .before .enum-told .given .1) (c .before .before .before .before .before .before .before .before .before .before .before .before .before .before .if1 .left)
+    let a = c .before .before .before .before .before .before .before .before .before .before .before .before .before .before .before .before .before .before .before .before .before .args in
+    write-done (a .t1) (a .out .now) _ _ _ (sym (c .before .before .before .before .before .before .before .before .before .before .before .before .before .before .before .before .before .check-parts .ensures) ∙ c .before .before .before .before .before .before .before .before .before .before .before .before .before .before .before .enum-told .given .1) (c .before .before .before .before .before .before .before .before .before .before .before .before .before .before .if1 .left)
     (c .before .before .before .before .before .before .before .before .before .before .before .before .put-head .ensures) (c .before .before .before .before .before .before .put-rows .ensures) (c .before .before .put-end .ensures)
 
 pub write-table-spec : {M : Type 1} → statement M
 write-table-spec =
     tie.close
     (tie.spec
-    check-requires
+    check-parts-requires
     enum-known-checked
     returns
     enum-told

@@ -17,7 +17,7 @@ use Rattle.verdict.proofs.judge_trace.Statement.{statement}
 use Rattle.verdict.proofs.judge_trace.Tie as tie
 use Rattle.verdict.proofs.judge_trace.Reads as reads
 use Rattle.verdict.proofs.judge_trace.Lts as lts
-use Rattle.table.proofs.check.Reads as check-reads
+use Rattle.table.proofs.check_parts.Reads as check-parts-reads
 use Rattle.trace.proofs.is_trace.Reads as is-trace-reads
 use Rattle.verdict.proofs.pairs.least_pair.Reads as least-pair-reads
 use Rattle.words.proofs.write_words.Reads as write-words-reads
@@ -34,8 +34,8 @@ is-nowhere Pair.Nowhere e = refl
 -- what the calls ask and promise
 abbrev calls : lts.Claims
 calls = (
-  check-reads.Asked,
-  check-reads.Learnt,
+  check-parts-reads.Asked,
+  check-parts-reads.Learnt,
   is-trace-reads.Asked,
   is-trace-reads.Learnt,
   least-pair-reads.Asked,
@@ -47,17 +47,17 @@ calls = (
 -- the place where the table and the trace have passed their tests
 module _ (c : lts.Else1 calls reads.Pre reads.Post) where
   abbrev table : Table
-  table = c .before .before .before .before .before .before .before .before .before .args .t1
+  table = c .before .before .before .before .before .before .before .before .before .before .before .args .t1
 
   abbrev steps : List ℕ
-  steps = c .before .before .before .before .before .before .before .before .before .args .trace .now
+  steps = c .before .before .before .before .before .before .before .before .before .before .before .args .trace .now
 
   abbrev stamps : List ℕ
-  stamps = c .before .before .before .before .before .before .before .before .before .args .stamps .now
+  stamps = c .before .before .before .before .before .before .before .before .before .before .before .args .stamps .now
 
   tested : Tested table steps
   tested = record {
-    sound = sym (c .before .before .before .before .before .before .check .ensures) ∙ is-sound _ (c .before .before .before .before .before .match .keys2);
+    sound = sym (c .before .before .before .before .before .before .check-parts .ensures) ∙ is-sound _ (c .before .before .before .before .before .match .keys2);
     handed = c .before .is-trace .ensures .right (not-false _ (c .if1 .left));
   }
 
@@ -72,16 +72,16 @@ module _ (c : lts.After-pair calls reads.Pre reads.Post) where
   near : (c .pair .given .0 .0 < 512) × (c .pair .given .0 .1 .0 < 512)
   near = pair-near (tested passed) pair
 
-check-requires : tie.Need-check-requires
-check-requires c κs = search needs
+check-parts-requires : tie.Need-check-parts-requires
+check-parts-requires c κs = search needs
 
 enum-known-checked : tie.Need-enum-known-checked
 enum-known-checked c = search needs
 
 returns : tie.Need-returns
 returns c =
-    let a = c .before .before .before .before .before .before .args in
-    no-table (a .t1) (a .trace .now) (a .stamps .now) _ (sym (c .before .before .before .check .ensures) ∙ c .before .checked .given .1)
+    let a = c .before .before .before .before .before .before .before .before .args in
+    no-table (a .t1) (a .trace .now) (a .stamps .now) _ (sym (c .before .before .before .check-parts .ensures) ∙ c .before .checked .given .1)
 
 enum-told : tie.Need-enum-told
 enum-told c = search needs
@@ -91,8 +91,8 @@ is-trace-requires c κs = search needs
 
 returns-2 : tie.Need-returns-2
 returns-2 c =
-    let a = c .before .before .before .before .before .before .before .before .before .args in
-    let k = c .before .before .before .before .before .before .check in
+    let a = c .before .before .before .before .before .before .before .before .before .before .before .args in
+    let k = c .before .before .before .before .before .before .check-parts in
     no-trace (a .t1) (a .trace .now) (a .stamps .now) (sym (k .ensures) ∙ is-sound (k .result) (c .before .before .before .before .before .match .keys2))
     (c .before .is-trace .ensures .wrong (not-true _ (c .if1 .taken)))
 
@@ -120,11 +120,11 @@ returns-4 c =
 write-words-requires : tie.Need-write-words-requires
 write-words-requires c κs = search needs
 
-add-t13 : tie.Need-add-t13
-add-t13 c = omega (arith, near (c .before .before .before .before .before .before .before))
+add-t12 : tie.Need-add-t12
+add-t12 c = omega (arith, near (c .before .before .before .before .before .before .before))
 
-add-t16 : tie.Need-add-t16
-add-t16 c = omega (arith, near (c .before .before .before .before .before .before .before))
+add-t18 : tie.Need-add-t18
+add-t18 c = omega (arith, near (c .before .before .before .before .before .before .before))
 
 same-length : tie.Need-same-length
 same-length c = search needs
@@ -138,7 +138,7 @@ pub judge-trace-spec : {M : Type 1} → statement M
 judge-trace-spec =
     tie.close
     (tie.spec
-    check-requires
+    check-parts-requires
     enum-known-checked
     returns
     enum-told
@@ -151,7 +151,7 @@ judge-trace-spec =
     enum-told-2
     returns-4
     write-words-requires
-    add-t13
-    add-t16
+    add-t12
+    add-t18
     same-length
     returns-5)

@@ -19,13 +19,19 @@ returns c =
 enum-told : tie.Need-enum-told
 enum-told c = search needs
 
+slice-aggregate-judge-on : tie.Need-slice-aggregate-judge-on
+slice-aggregate-judge-on c = search needs
+
+slice-aggregate-judge-on-2 : tie.Need-slice-aggregate-judge-on-2
+slice-aggregate-judge-on-2 c = search needs
+
 judge-on-requires : tie.Need-judge-on-requires
 judge-on-requires c κs =
-    let e = c .before .before in
+    let e = c .before .before .before .before .before .before in
     let p = e .before .before in
     let k = p .before .before .before in
     let l = k .before .args .file .now in
-    sound-checks l (p .read-table .result) (p .read-table .ensures) (e .enum-told .given .1) (λ i. k .shared-slice-known .given i .fits)
+    ((refl, refl), sound-checks l (p .read-table .result) (p .read-table .ensures) (e .enum-told .given .1) (λ i. k .shared-slice-known .given i .fits))
 
 same-length : tie.Need-same-length
 same-length c = search needs
@@ -35,10 +41,10 @@ same-length-2 c = search needs
 
 returns-2 : tie.Need-returns-2
 returns-2 c =
-    let e = c .before .before .before .before .before .before .before in
+    let e = c .before .before .before .before .before .before .before .before .before .before .before .before .before in
     let p = e .before .before in
     let l = p .before .before .before .before .args .file .now in
-    rw (sound-read l (p .read-table .result) (p .read-table .ensures) (e .enum-told .given .1)) (c .before .before .before .before .judge-on .ensures)
+    rw (sound-read l (p .read-table .result) (p .read-table .ensures) (e .enum-told .given .1)) (c .before .before .before .before .before .before .judge-on .ensures)
 
 pub judge-table-bytes-spec : {M : Type 1} → statement M
 judge-table-bytes-spec =
@@ -48,6 +54,8 @@ judge-table-bytes-spec =
     enum-known-read
     returns
     enum-told
+    slice-aggregate-judge-on
+    slice-aggregate-judge-on-2
     judge-on-requires
     same-length
     same-length-2
