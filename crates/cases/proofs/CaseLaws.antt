@@ -22,12 +22,12 @@ use Rattle.model.proofs.Turn.{ShownTurn, turn-shown, table-walk-law}
 use Rattle.table.specs.declared.Table.{Table}
 use Rattle.table.specs.declared.Checked.the-variants.{Sound}
 use Rattle.table.specs.declared.Refusal.the-variants.{Outside}
-use Rattle.table.specs.Rows.{rows, machineOf}
+use Rattle.table.specs.Rows.{rows, named, machineOf}
 use Rattle.table.specs.Check.{checkOf}
 use Rattle.table.specs.Tests.{Passes}
 use Rattle.table.proofs.TestLaws.{sound-valid, sound-passes, passes-fails}
 use Rattle.trace.specs.Named.{stepsIn}
-use Rattle.trace.proofs.TraceLaws.{length-steps-in}
+use Rattle.trace.proofs.TraceLaws.{length-steps-in, named-in}
 use Rattle.replay.specs.declared.Replayed.{Replayed}
 use Rattle.replay.specs.declared.Replayed.the-variants.{Played, Refused}
 use Rattle.replay.specs.Play.{FirstOutside, ReplayOutcome}
@@ -37,8 +37,7 @@ use Rattle.replay.proofs.OutcomeLaws as replay
 use Rattle.verdict.specs.declared.OnTrace.{OnTrace}
 use Rattle.verdict.specs.declared.OnTrace.the-variants.{Steady, Turning, Refused as Unjudged}
 use Rattle.verdict.specs.OnTrace.{TraceOutcome}
-use Rattle.words.specs.Shows.{named, wordsLeft}
-use Rattle.verdict.proofs.StepLaws.{named-steps}
+use Rattle.words.specs.Shows.{wordsLeft}
 use Rattle.verdict.proofs.JudgeLaws.{Tested, steady, turning}
 use Rattle.verdict.proofs.JudgeLaws as verdict
 use Rattle.table_verdict.specs.declared.OnTable.{OnTable}
@@ -68,14 +67,14 @@ abbrev pub OnlyTwo : Machine → List ℕ → Type 0
 OnlyTwo m trace = (l : List ℕ) (e k n : ℕ) → Trace (m .transitions) (m .initial) l e → k < n → n < length l → (l ≡ trace) × (k ≡ 0) × (n ≡ 1)
 
 -- what the criterion says of a machine that doesn't split: no walk turns, or one does, and a single trace has two steps
-abbrev pub Tells : Machine → OnTable → List ℕ → List ℕ → Type 0
-Tells m Strict trace stamps = ((i : ℕ) → WalkTurns m i → ⊥) × (trace ≡ []) × (stamps ≡ [])
-Tells m (TurningTable k n) trace stamps =
+abbrev pub Expects : Machine → OnTable → List ℕ → List ℕ → Type 0
+Expects m Strict trace stamps = ((i : ℕ) → WalkTurns m i → ⊥) × (trace ≡ []) × (stamps ≡ [])
+Expects m (TurningTable k n) trace stamps =
     let tr : List Transition = steps (m .transitions) trace in
     ((i : ℕ) × WalkTurns m i) × OnlyTwo m trace × (k ≡ 1) × (n ≡ 2)
     × (stamps ≡ stampsOf (lateWord tr) ++ stampsOf (earlyWord tr 0 1)) × (length stamps ≡ 2 * length trace)
-Tells m (Split i j n) trace stamps = ⊥
-Tells m (RefusedTable r) trace stamps = ⊥
+Expects m (Split i j n) trace stamps = ⊥
+Expects m (RefusedTable r) trace stamps = ⊥
 
 -- what is left to compute of a case
 abbrev pub Computed : Case → Type 0
@@ -85,7 +84,7 @@ Computed (judged t trace answer) =
     let tr : List Transition = stepsIn t trace in
     Tested t trace × (tr ≡ at tr 0 ∷ at tr 1 ∷ []) × Judges (at tr 0) (at tr 1) answer
 Computed (tabled t answer trace stamps) =
-    (checkOf t ≡ Sound) × ((i j : ℕ) → SplitPair (machineOf t) i j → ⊥) × Tells (machineOf t) answer trace stamps
+    (checkOf t ≡ Sound) × ((i j : ℕ) → SplitPair (machineOf t) i j → ⊥) × Expects (machineOf t) answer trace stamps
 Computed (sized c) = (states initial : ℕ) → Size states initial → Computed (c states initial)
 
 -- the first step is outside
@@ -141,7 +140,7 @@ module _ {t : Table} {trace : List ℕ} (h : Tested t trace) where
 
   module _ {a b : Transition} (is : tr ≡ a ∷ b ∷ []) (s₀ : List ℕ) (room : 2 * length trace ≤ length s₀) where
     same : named (t .cells) trace ≡ a ∷ b ∷ []
-    same = named-steps t trace (h .sound) (h .handed .1) ∙ is
+    same = named-in t trace (h .handed .1) (h .handed .0) ∙ is
 
     judges : (answer : OnTrace) → Judges a b answer → (s : List ℕ) × TraceOutcome t trace s₀ answer s
     judges Steady c = (s₀, steady h s₀ room (rw same (λ k m x. let p = only-pair k m x in omega (arith, c (p .2)))))
@@ -167,7 +166,7 @@ module _ (t : Table) (sound : checkOf t ≡ Sound) (unsplit : (i j : ℕ) → Sp
   whole x = let p = split-law m valid .0 x in unsplit (p .0) (p .1) (p .2)
 
   -- the turn that the model shows for the walk: only the expected trace has two steps
-  answers : (k n : ℕ) (trace stamps : List ℕ) → Tells m (TurningTable k n) trace stamps → AnswersTurning m l₀ s₀ k n (over trace l₀) (over stamps s₀)
+  answers : (k n : ℕ) (trace stamps : List ℕ) → Expects m (TurningTable k n) trace stamps → AnswersTurning m l₀ s₀ k n (over trace l₀) (over stamps s₀)
   answers k n trace stamps (some, two, f, g, es, len) =
       let s : ShownTurn m (some .0) = turn-shown m valid (some .1) in
       let p = two (s .trace) (s .end) (s .k) (s .last) (s .path) (s .meets .ordered) (omega (arith, s .ends)) in
@@ -189,15 +188,12 @@ module _ (t : Table) (sound : checkOf t ≡ Sound) (unsplit : (i j : ℕ) → Sp
             omega arith;
         earliest = λ x h. absurd (omega (arith, p .1));
         turns = turns-law (trace-ranged (m .transitions) (valid .ranged) (m .initial) (s .end) (s .trace) (s .path)) (s .k) (s .last) .1 (s .meets);
-        act-late = s .act-late;
-        act-early = s .act-early;
-        kept = s .kept;
-        turned = s .turned;
+        shows = s .shows;
         traced = cc (p .0);
-        stamped = cc (append-assoc (stampsOf (lateWord tr)) (stampsOf (earlyWord tr 0 1)) (drop (length stamps) s₀));
+        stamped = cc (append-assoc (stampsOf (lateWord tr)) (stampsOf (earlyWord tr 0 1)) (drop (length stamps) s₀), length-steps (m .transitions) trace);
       }
 
-  allowed : (answer : OnTable) (trace stamps : List ℕ) → Tells m answer trace stamps → TableOutcome t l₀ s₀ answer (over trace l₀) (over stamps s₀)
+  allowed : (answer : OnTable) (trace stamps : List ℕ) → Expects m answer trace stamps → TableOutcome t l₀ s₀ answer (over trace l₀) (over stamps s₀)
   allowed Strict trace stamps (none, el, es) =
       (passes, record { unsplit = whole; steady = λ x. let w = table-walk-law m valid .0 x in none (w .0) (w .1) }, rw el, rw es)
   allowed (TurningTable k n) trace stamps c = (passes, answers k n trace stamps c)
@@ -205,7 +201,7 @@ module _ (t : Table) (sound : checkOf t ≡ Sound) (unsplit : (i j : ℕ) → Sp
   allowed (RefusedTable r) trace stamps c = absurd c
 
   -- every outcome that is allowed for a table is the one that its case expects
-  told : (answer : OnTable) (trace stamps : List ℕ) → Tells m answer trace stamps → (r : OnTable) (l s : List ℕ) → TableOutcome t l₀ s₀ r l s
+  told : (answer : OnTable) (trace stamps : List ℕ) → Expects m answer trace stamps → (r : OnTable) (l s : List ℕ) → TableOutcome t l₀ s₀ r l s
       → (r ≡ answer) × (l ≡ over trace l₀) × (s ≡ over stamps s₀)
   told answer trace stamps c (RefusedTable r) l s x = absurd (passes-fails (tableTests t l₀ s₀) r passes (x .0))
   told answer trace stamps c (Split i j n) l s x = absurd (unsplit i j (x .1 .pair .pair))
@@ -216,7 +212,7 @@ module _ (t : Table) (sound : checkOf t ≡ Sound) (unsplit : (i j : ℕ) → Sp
   told (TurningTable k n) trace stamps (some, two, f, g, es, len) (TurningTable k' n') l s (_, y) =
       let p = two (y .shown) (y .end) (y .k) (y .last) (y .path) (y .turns .ordered) (omega (arith, y .ends)) in
       let tr : List Transition = steps (m .transitions) trace in
-      (cc, cc, cc (append-assoc (stampsOf (lateWord tr)) (stampsOf (earlyWord tr 0 1)) (drop (length stamps) s₀)))
+      (cc, cc, cc (append-assoc (stampsOf (lateWord tr)) (stampsOf (earlyWord tr 0 1)) (drop (length stamps) s₀), length-steps (m .transitions) trace))
 
 pub computed-holds : (c : Case) → Computed c → Holds c
 computed-holds (replayed t trace start stamps answer os ds) (h, e, c) = λ o₀ d₀ ho hd.

@@ -117,9 +117,9 @@ module _ {n : ℕ} {tr : List Transition} (good : All (InRange n) tr) where
           record {
             one = lateWord tr;
             two = earlyWord tr (c .0) (c .1);
-            act-one = s .0;
-            act-two = s .1;
-            opposed = record { i = c .0; j = c .1; i-in = omega arith; j-in = c .2 .inside; first = s .2; second = s .3 };
+            act-one = s .act-late;
+            act-two = s .act-early;
+            opposed = record { i = c .0; j = c .1; i-in = omega arith; j-in = c .2 .inside; first = s .kept; second = s .turned };
           }
 
 -- spans add up

@@ -13,16 +13,17 @@ use Rattle.table.specs.declared.Table.{Table}
 use Rattle.table.specs.declared.Refusal.{Refusal}
 use Rattle.table.specs.declared.Refusal.the-variants.{NoTrace, Uneven, NoRoom, Outside}
 use Rattle.table.specs.declared.Checked.the-variants as checked
-use Rattle.table.specs.Rows.{rows}
+use Rattle.table.specs.Rows.{rows, named}
 use Rattle.table.specs.Check.{checkOf}
 use Rattle.table.specs.Tests.{Test, unless, Passes, Fails}
 use Rattle.table.proofs.TestLaws.{sound-valid, sound-passes, sound-fails, refused-fails, passes-sound}
+use Rattle.table.proofs.NamedLaws.{length-named}
 use Rattle.trace.specs.Named.{stepsIn, TraceIn}
-use Rattle.trace.proofs.TraceLaws.{length-steps-in, handed-ranged}
+use Rattle.trace.proofs.TraceLaws.{length-steps-in, named-in, handed-ranged}
 use Rattle.replay.specs.Play.{replayTests, RefusesReplay, Plays}
-use Rattle.replay.specs.Tried.{rowsOf, Tried}
+use Rattle.replay.specs.Tried.{Tried}
 use Rattle.replay.specs.Laid.{Laid, LaidOut, Playable}
-use Rattle.replay.proofs.WordLaws.{length-rows-of, rows-of-trace, fits-activates}
+use Rattle.replay.proofs.WordLaws.{fits-activates}
 use Rattle.replay.proofs.LaidLaws.{laid, laid-converts, laid-orders, laid-dues}
 
 -- the tests after the table's
@@ -65,16 +66,16 @@ module _ (t : Table) (trace stamps o₀ d₀ : List ℕ) (p : Passes (replayTest
   pub passed-ranged : All (InRange (t .states)) (stepsIn t trace)
   passed-ranged = handed-ranged t trace passed-handed (passes-sound t (otherTests t trace stamps o₀ d₀) p)
 
-  same : rowsOf (t .cells) trace ≡ stepsIn t trace
-  same = rows-of-trace t trace passed-handed (p .0)
+  same : named (t .cells) trace ≡ stepsIn t trace
+  same = named-in t trace passed-handed (p .0)
 
-  module _ (start : ℕ) {s : ℕ} (tried : Tried (rowsOf (t .cells) trace) (gapsFrom start stamps) s) where
+  module _ (start : ℕ) {s : ℕ} (tried : Tried (named (t .cells) trace) (gapsFrom start stamps) s) where
     pub refuses-gap : 1 ≤ s → RefusesReplay t trace start stamps o₀ d₀ (Outside s) o₀ d₀
     refuses-gap h = record { why = inr (p, (s, (rw same at tried) .outside h, refl)); order-kept = refl; due-kept = refl }
 
-    activates : s ≡ 0 → Activates (rowsOf (t .cells) trace) (wordFrom (rowsOf (t .cells) trace) start stamps)
+    activates : s ≡ 0 → Activates (named (t .cells) trace) (wordFrom (named (t .cells) trace) start stamps)
     activates z =
-        fits-activates (rowsOf (t .cells) trace) start stamps (passed-stamped ∙ sym (length-rows-of (t .cells) trace)) (tried .inside z)
+        fits-activates (named (t .cells) trace) start stamps (passed-stamped ∙ sym (length-named (t .cells) trace)) (tried .inside z)
 
     pub playable : s ≡ 0 → Playable (t .cells) trace start stamps o₀ d₀
     playable z = record {

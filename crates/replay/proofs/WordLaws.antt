@@ -1,41 +1,19 @@
 -- The word that stamps make on a trace: its gaps place by place, and when it activates the trace.
-use mathlib.Core.Path.{_≡_, refl, sym, ap, _∙_}
+use mathlib.Core.Path.{_≡_, refl, ap, _∙_}
 use mathlib.Core.List.{List, [], _∷_}
-use Prim.Native.Nat.{ℕ, zero, suc, _+_, _≤_, _<_}
+use Prim.Native.Nat.{ℕ, zero, suc, _+_, _<_}
 use native.Mathlib.Omega.{arith}
 use native.Mathlib.Nat.{suc-inj}
-use lib.ListN.{length, getD, take, length-map}
-use lib.Seq.{ext-getD}
+use lib.ListN.{length, getD, take}
 use Rattle.model.specs.Lists.{total}
 use Rattle.model.specs.Table.{Transition, at, none}
-use Rattle.model.specs.Trace.{Handed}
 use Rattle.model.specs.Word.{Symbol, Activates}
 use Rattle.model.specs.Order.{arrival}
 use Rattle.model.specs.Shown.{symbol}
 use Rattle.model.specs.Stamps.{gapOf, gapsFrom, spelled, wordFrom}
-use Rattle.model.proofs.Lists.{both-by, both-at, getD-map}
+use Rattle.model.proofs.Lists.{both-by, both-at}
 use Rattle.table.specs.declared.Table.{Table}
-use Rattle.table.specs.Rows.{rows, rowOf, said}
-use Rattle.trace.specs.Named.{stepsIn}
-use Rattle.trace.proofs.TraceLaws.{length-steps-in, row-steps-in}
-use Rattle.replay.specs.Tried.{rowsOf, AllFit}
-
--- the transitions that the code looks up
-pub length-rows-of : (c l : List ℕ) → length (rowsOf c l) ≡ length l
-unfolding rowsOf
-length-rows-of c l = length-map l (λ i. said (rowOf c i))
-
-pub at-rows-of : (c l : List ℕ) (i : ℕ) → i < length l → at (rowsOf c l) i ≡ said (rowOf c (getD l i 0))
-unfolding rowsOf
-at-rows-of c l i h = getD-map (λ i. said (rowOf c i)) 0 none l i h
-
--- of a list that passed its test they are the trace's
-pub rows-of-trace : (t : Table) (l : List ℕ) → Handed (rows (t .cells) (t .count)) l → t .count ≤ 256 → rowsOf (t .cells) l ≡ stepsIn t l
-rows-of-trace t l h few =
-    ext-getD none (rowsOf (t .cells) l) (stepsIn t l) (length-rows-of (t .cells) l ∙ sym (length-steps-in t l))
-    (λ i k.
-    let m : i < length l = omega (arith, length-rows-of (t .cells) l) in
-    at-rows-of (t .cells) l i m ∙ sym (row-steps-in t l h few i m))
+use Rattle.replay.specs.Tried.{AllFit}
 
 -- a stamp counts 1/256 tick
 pub parts-of : (tr : List Transition) (start : ℕ) (stamps : List ℕ) → wordFrom tr start stamps .q ≡ 256

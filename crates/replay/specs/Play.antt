@@ -6,7 +6,7 @@ use Prim.Native.Nat.{ℕ, suc, _≤_, _<_}
 use lib.ListN.{length, getD, drop}
 use Rattle.model.specs.Table.{Transition, at}
 use Rattle.model.specs.Trace.{Handed}
-use Rattle.model.specs.Word.{Word, Fits, Activates}
+use Rattle.model.specs.Word.{Fits, Activates}
 use Rattle.model.specs.Order.{Response, Conversion}
 use Rattle.model.specs.Stamps.{gapsFrom, wordFrom}
 use Rattle.trace.specs.Named.{stepsIn}

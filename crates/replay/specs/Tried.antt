@@ -1,16 +1,11 @@
 -- The test of a word's gaps on the transitions that a list names in a table's cells.
 use mathlib.Core.Path.{_≡_}
-use mathlib.Core.List.{List, map}
+use mathlib.Core.List.{List}
 use Prim.Native.Nat.{ℕ, _≤_, _<_}
 use lib.ListN.{length, getD}
 use Rattle.model.specs.Table.{Transition, at}
 use Rattle.model.specs.Word.{Fits}
-use Rattle.table.specs.Rows.{rowOf, said}
 use Rattle.replay.specs.Play.{FirstOutside}
-
--- the transitions that a list of numbers names in the cells
-unfoldable pub rowsOf : List ℕ → List ℕ → List Transition
-rowsOf cells l = map (λ i. said (rowOf cells i)) l
 
 -- every gap inside its step's guard
 abbrev pub AllFit : List Transition → List ℕ → Type 0

@@ -4,11 +4,11 @@ use table::Row;
 ghost use mathlib.Core.Path.{_≡_};
 ghost use Prim.Native.Nat.{_*_, _<_};
 ghost use lib.ListN.{length, getD};
+ghost use Rattle.model.specs.Answers.{Tells};
 ghost use Rattle.model.specs.Word.{Fits};
 ghost use Rattle.model.specs.Stamps.{gapOf, gapsFrom};
-ghost use Rattle.table.specs.Rows.{rowOf, said};
-ghost use Rattle.trace.specs.Named.{Judged};
-ghost use Rattle.replay.specs.Tried.{rowsOf, Tried};
+ghost use Rattle.table.specs.Rows.{rowOf, said, named};
+ghost use Rattle.replay.specs.Tried.{Tried};
 
 // Ticks in 1/256 tick.
 pub(crate) fn parts(ticks: u16) -> u32
@@ -26,7 +26,7 @@ pub(crate) fn gap(before: u32, stamp: u32) -> u32
 
 // Whether a gap is greater than u and at most v: no other place compares a gap with a guard.
 fn inside(r: Row, gap: u32) -> bool
-    ensures { λ b. ⌜ Judged (Fits 256 (said r) gap) b ⌝ }
+    ensures { λ b. ⌜ Tells b (Fits 256 (said r) gap) ⌝ }
 {
     if gap <= parts(r.u) {
         return false;
@@ -48,7 +48,7 @@ pub(crate) fn step_row(cells: &Cells, trace: &[u16], i: usize) -> Row
 // The first step, counted from 1, whose gap is outside its guard; 0 if there is none.
 pub(crate) fn first_outside(cells: &Cells, trace: &[u16], start: u32, stamps: &[u32]) -> usize
     requires { ⌜ length (now stamps) ≡ length (now trace) ⌝ }
-    ensures { λ r. ⌜ Tried (rowsOf (now (cells .entry)) (now (trace .entry))) (gapsFrom start (now (stamps .entry))) r ⌝ }
+    ensures { λ r. ⌜ Tried (named (now (cells .entry)) (now (trace .entry))) (gapsFrom start (now (stamps .entry))) r ⌝ }
 {
     let mut before = start;
     let mut i: usize = 0;

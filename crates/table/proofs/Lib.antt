@@ -1,5 +1,6 @@
 pub mod RangeLaws
 pub mod RowLaws
+pub mod NamedLaws
 pub mod CheckLaws
 pub mod TestLaws
 pub mod FrameLaws

@@ -1,22 +1,22 @@
 -- What was shown decides the machine.
-use mathlib.Core.Path.{_≡_, refl, sym, ap, _∙_}
-use mathlib.Core.Logic.{_⊎_, inl, inr, _↔_}
-use mathlib.Core.List.{List, [], _∷_, _++_}
-use Prim.Native.Nat.{ℕ, zero, suc, _+_, _*_, _≤_, _<_}
+use mathlib.Core.Path.{_≡_, refl, sym, _∙_}
+use mathlib.Core.Logic.{inl, _↔_}
+use mathlib.Core.List.{List, [], _∷_}
+use Prim.Native.Nat.{ℕ, zero, suc, _+_, _≤_, _<_}
 use native.Mathlib.Numerals.{add-one}
 use native.Mathlib.Omega.{arith}
-use lib.ListN.{length, getD, length-append, List·getD-append}
+use lib.ListN.{length, getD, List·getD-append}
 use lib.Seq.{getD-append-seam}
 use Rattle.model.specs.Lists.{All}
 use Rattle.model.specs.Table.{Transition, Machine, InRange, Valid, at}
-use Rattle.model.specs.Trace.{Trace, Reached, steps}
+use Rattle.model.specs.Trace.{Trace, Reached}
 use Rattle.model.specs.Span.{WalkTurns}
-use Rattle.model.specs.Verdict.{SplitPair, Strict, OnlyTurns}
+use Rattle.model.specs.Verdict.{SplitPair, Strict}
 use Rattle.model.proofs.Paths.{trace-ranged}
 use Rattle.model.proofs.Pair.{turns-law}
 use Rattle.model.proofs.Words.{words-show}
 use Rattle.model.proofs.Split.{pair-shown, shown-splits, split-law}
-use Rattle.model.proofs.Turn.{walked, length-walked, walk-path, walk-meets, turns-from-law, table-walk-law}
+use Rattle.model.proofs.Turn.{length-walked, walk-path, walk-meets, turns-from-law, table-walk-law}
 use Rattle.table_verdict.specs.declared.OnTable.{OnTable}
 use Rattle.table_verdict.specs.declared.search.Found.the-variants.{At, Nothing}
 use Rattle.table.specs.declared.Table.{Table}
@@ -30,7 +30,7 @@ use Rattle.table.proofs.TestLaws.{refused-fails, sound-fails, sound-passes, sou
 use Rattle.table_verdict.specs.declared.OnTable.the-variants.{Strict as StrictTable, Split, Turning, Refused}
 use Rattle.table_verdict.specs.OnTable.{LeastSplit, TableOutcome, tableTests}
 use Rattle.table_verdict.specs.Reach.{Reach, mark, wayTo}
-use Rattle.table_verdict.specs.Walks.{TurnsTo, Starts, Least}
+use Rattle.table_verdict.specs.Walks.{Starts, Least}
 use Rattle.table_verdict.specs.Shown.{ShowRoom, SplitStands, TurnStands, walkedTo}
 use Rattle.table_verdict.specs.Decided.{Decided, Decision, machineWith, TurnJudged, turns-not, turns-from}
 use Rattle.table_verdict.proofs.ReachLaws.{way-path, way-few, way-fresh}
@@ -106,7 +106,6 @@ module _ (ts : List Transition) (initial : ℕ) (dist via : List ℕ) (reach : R
           let p : Trace ts initial shown (s .turns .end) = walk-path m t way path in
           let c = walk-meets m t way path in
           let good = trace-ranged ts (v .ranged) initial (s .turns .end) shown p in
-          let w = words-show good _ _ c in
           let len = length-walked m t way path in
           let here : getD shown (length way) 0 ≡ k = getD-append-seam way k _ 0 in
           rw (s .answer) (record {
@@ -126,10 +125,7 @@ module _ (ts : List Transition) (initial : ℕ) (dist via : List ℕ) (reach : R
             lowest = λ i f. omega (arith, here, low .1 i (turns-from-law m v i .0 f));
             earliest = λ x h e. way-fresh reach (at ts k .from) marked k refl x h (sym (List·getD-append way _ 0 x h) ∙ e ∙ here);
             turns = turns-law good _ _ .1 c;
-            act-late = w .0;
-            act-early = w .1;
-            kept = w .2;
-            turned = w .3;
+            shows = words-show good _ _ c;
             traced = s .traced;
             stamped = s .stamped;
           })

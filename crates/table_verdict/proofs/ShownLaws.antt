@@ -1,32 +1,31 @@
 -- The shown split: its trace and its word, store by store.
 use mathlib.Core.Path.{_≡_, refl, sym, ap, _∙_}
-use mathlib.Core.Bool.{Bool, true, false, cond}
 use mathlib.Core.Logic.{dite}
 use mathlib.Core.List.{List, [], _∷_, _++_, map, map-append, append-assoc}
-use Prim.Native.Nat.{ℕ, suc, _+_, _*_, _-_, _≤_, _<_, min}
+use Prim.Native.Nat.{ℕ, suc, _+_, _-_, _≤_, _<_, min}
 use native.Mathlib.Decide.{decLt}
 use native.Mathlib.Numerals.{add-one}
 use native.Mathlib.Omega.{arith}
 use borrow.Author.Tests.{lt-ltb, le-ltb}
-use lib.ListN.{length, getD, take, drop, set, length-append, length-take, length-drop, length-map}
+use lib.ListN.{length, getD, take, drop, set, length-append, length-drop}
 use lib.Seq.{set-at, drop-cons, drop-drop, drop-append-add, take-at}
-use Rattle.model.specs.Lists.{All, total}
-use Rattle.model.specs.Table.{Transition, InRange, at, none}
+use Rattle.model.specs.Lists.{All}
+use Rattle.model.specs.Table.{Transition, at}
 use Rattle.model.specs.Trace.{Trace, steps}
-use Rattle.model.specs.Word.{Symbol}
-use Rattle.model.specs.Shown.{lateGap, lateWord, earlyWord, splitWord, symbol}
-use Rattle.model.specs.Stamps.{stampsOf, stampsAfter}
+use Rattle.model.specs.Shown.{lateGap, lateWord, splitWord, symbol}
+use Rattle.model.specs.Stamps.{stampsOf, stampsAfter, shownStamps}
 use Rattle.model.proofs.Lists.{all-append}
-use Rattle.model.proofs.Paths.{trace-append, steps-last, trace-known, trace-ranged, length-steps}
+use Rattle.model.proofs.Paths.{trace-append, steps-last, trace-known, trace-ranged}
 use Rattle.model.proofs.StampLaws.{stamps-last, early-late}
 use Rattle.table.specs.declared.Row.{Row}
-use Rattle.table.specs.Rows.{rows, rowOf, rowAt, said}
-use Rattle.table.proofs.RowLaws.{row-near, at-rows, length-rows}
-use Rattle.words.specs.Shows.{named, Ready, wordLeft, wordsLeft}
+use Rattle.table.specs.Rows.{rows, rowOf, named}
+use Rattle.table.proofs.RowLaws.{length-rows}
+use Rattle.table.proofs.NamedLaws.{named-steps, named-trace}
+use Rattle.words.specs.Shows.{Ready, wordLeft, wordsLeft}
 use Rattle.words.proofs.WordLaws.{word-plain, words-plain}
 use Rattle.table_verdict.specs.Sound.{Sound}
-use Rattle.table_verdict.specs.Reach.{Linked, mark, wayTo, WayFits, WayStands}
-use Rattle.table_verdict.specs.Shown.{ShowRoom, SplitStands, walkedTo, earlier}
+use Rattle.table_verdict.specs.Reach.{mark, wayTo, WayFits, WayStands}
+use Rattle.table_verdict.specs.Shown.{ShowRoom, walkedTo, earlier}
 use Rattle.table_verdict.specs.Walks.{TurnsTo, ShownLeast}
 use Rattle.table_verdict.proofs.SoundLaws.{row-said, row-ranged}
 use Rattle.table_verdict.proofs.ReachLaws.{way-length}
@@ -38,14 +37,6 @@ store-next p d k x e h = rw (add-one k, drop-cons d k 0 h, append-assoc) (set-at
 -- and one store over it
 pub store-over : (p r : List ℕ) (k x y : ℕ) → length p ≡ k → set ((p ++ (x ∷ [])) ++ r) k y ≡ (p ++ (y ∷ [])) ++ r
 store-over p r k x y e = rw (append-assoc, append-assoc p (y ∷ []) r) (set-at p x r y k e)
-
--- numbers of transitions name the transitions, as the code reads them
-pub named-steps : (c : List ℕ) (n : ℕ) → n ≤ 256 → (l : List ℕ) → All (λ i. i < n) l → named c l ≡ steps (rows c n) l
-unfolding named steps
-named-steps c n few [] All.all-nil = refl
-named-steps c n few (i ∷ l) (All.all-cons h a) =
-    let e : said (rowOf c i) ≡ at (rows c n) i = ap said (row-near c i (omega arith)) ∙ sym (at-rows c n i h) in
-    rw (e, named-steps c n few l a)
 
 -- the lesser v has the lesser late gap
 later-late : (s t : Transition) → t .v < s .v → min (lateGap s) (lateGap t) ≡ lateGap t
@@ -177,7 +168,7 @@ module _ (c : List ℕ) (n : ℕ) (dist via : List ℕ) (i : ℕ) (trace stamps 
     shown-path = trace-append ts (room .start) (at ts i .from) (turns .end) way _ (room .path) (room .first, refl, turns .walk)
 
     shown-named : named c shown ≡ steps ts shown
-    shown-named = named-steps c n (sound .few) shown (rw (length-rows c n) at (trace-known ts (room .start) (turns .end) shown shown-path))
+    shown-named = named-trace c n (sound .few) (room .start) (turns .end) shown shown-path
 
     shown-ready : Ready c shown
     shown-ready = record {
@@ -187,12 +178,10 @@ module _ (c : List ℕ) (n : ℕ) (dist via : List ℕ) (i : ℕ) (trace stamps 
     }
 
     pub turn-stamped : (last : ℕ) → last + 1 ≡ p + more
-        → wordsLeft c shown p last stamps ≡ stampsOf (lateWord (steps ts shown))
-        ++ (stampsOf (earlyWord (steps ts shown) (length way) (length way + suc (length (turns .rest)))) ++ drop (2 * length shown) stamps)
+        → wordsLeft c shown p last stamps ≡ shownStamps (steps ts shown) (length way) (length way + suc (length (turns .rest))) stamps
     turn-stamped last e =
         let q = words-plain c shown p last stamps shown-ready (omega (arith, shown-few, room .stamps-places)) in
         let z : last ≡ length way + suc (length (turns .rest)) = omega (arith, number, w .walk .number) in
-        let l : length (steps ts shown) ≡ length shown = length-steps ts shown in
-        (rw (shown-named, l) at q)
-        ∙ ap (λ (x : ℕ). stampsOf (lateWord (steps ts shown)) ++ (stampsOf (earlyWord (steps ts shown) x last) ++ drop (2 * length shown) stamps)) number
-        ∙ ap (λ (x : ℕ). stampsOf (lateWord (steps ts shown)) ++ (stampsOf (earlyWord (steps ts shown) (length way) x) ++ drop (2 * length shown) stamps)) z
+        (rw shown-named at q)
+        ∙ ap (λ (x : ℕ). shownStamps (steps ts shown) x last stamps) number
+        ∙ ap (λ (x : ℕ). shownStamps (steps ts shown) (length way) x stamps) z

@@ -10,12 +10,12 @@ use borrow.Author.Count.{below-more}
 use borrow.Author.Tests.{ltb-true, ltb-false}
 use lib.Dec.{ltb}
 use lib.ListN.{length}
+use Rattle.model.specs.Answers.{Tells}
 use Rattle.model.specs.Table.{Transition, at}
 use Rattle.model.specs.Verdict.{SplitPair, Overlap}
 use Rattle.table_verdict.specs.declared.split.Found.the-variants.{Pair, Nothing}
 use Rattle.table_verdict.specs.Reach.{mark, MarksReached}
 use Rattle.table_verdict.specs.Split.{Forks, MarkedPair, Partner, SplitOf}
-use Rattle.table_verdict.specs.Walks.{Tells}
 
 -- tests and what they say
 pub tells-lt : (a b : ℕ) → Tells (ltb a b) (a < b)

@@ -17,16 +17,7 @@ use Rattle.table.specs.declared.Row.{Row}
 use Rattle.table.specs.Rows.{rows, rowOf, said}
 use Rattle.table.proofs.RowLaws.{row-near, length-rows, at-rows}
 use Rattle.table_verdict.specs.Sound.{Sound}
-use Rattle.table_verdict.specs.Walks.{Seen, Walk, Tells}
-
--- what a test told
-pub told : (r : Bool) {P : Type 0} → Tells r P → r ≡ true → P
-told true t q = t
-told false t q = let z : _≡_ {A = ℕ} 0 1 = cc in absurd (omega arith)
-
-pub untold : (r : Bool) {P : Type 0} → Tells r P → r ≡ false → P → ⊥
-untold false t q = t
-untold true t q = let z : _≡_ {A = ℕ} 0 1 = cc in absurd (omega arith)
+use Rattle.table_verdict.specs.Walks.{Seen, Walk}
 
 -- the cells of a sound table, and a row of it
 module _ {c : List ℕ} {n : ℕ} (z : Sound c n) where

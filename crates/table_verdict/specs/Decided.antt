@@ -1,6 +1,5 @@
 -- What is decided of a valid machine, and what the search for a turning pair answers.
 use mathlib.Core.Path.{_≡_}
-use mathlib.Core.Logic.{_⊎_}
 use mathlib.Core.List.{List}
 use Prim.Native.Nat.{ℕ, _≤_}
 use lib.ListN.{length}

@@ -2,15 +2,14 @@
 use mathlib.Core.Path.{_≡_}
 use mathlib.Core.Logic.{_⊎_}
 use mathlib.Core.List.{List, [], _∷_, _++_}
-use Prim.Native.Nat.{ℕ, suc, _+_, _*_, _≤_, _<_}
+use Prim.Native.Nat.{ℕ, suc, _+_, _≤_, _<_}
 use lib.ListN.{length, drop, getD}
-use Rattle.model.specs.Table.{Transition, Machine, at}
+use Rattle.model.specs.Table.{Machine, at}
 use Rattle.model.specs.Trace.{Trace, steps}
 use Rattle.model.specs.Word.{Activates}
-use Rattle.model.specs.Order.{Before}
 use Rattle.model.specs.Verdict.{Turns, TurnsFrom, Splits, SplitPair, Strict, OnlyTurns}
-use Rattle.model.specs.Shown.{earlyWord, lateWord, splitWord}
-use Rattle.model.specs.Stamps.{stampsOf}
+use Rattle.model.specs.Shown.{Shows, splitWord}
+use Rattle.model.specs.Stamps.{stampsOf, shownStamps}
 use Rattle.table.specs.declared.Table.{Table}
 use Rattle.table.specs.declared.Refusal.{Refusal}
 use Rattle.table.specs.declared.Refusal.the-variants.{NoRoom}
@@ -56,13 +55,9 @@ pub record AnswersTurning (m : Machine) (trace₀ stamps₀ : List ℕ) (first s
   pub lowest : (i : ℕ) → TurnsFrom m i → getD shown k 0 ≤ i
   pub earliest : (x : ℕ) → x < k → getD shown x 0 ≡ getD shown k 0 → ⊥
   pub turns : Turns (steps (m .transitions) shown) k last
-  pub act-late : Activates (steps (m .transitions) shown) (lateWord (steps (m .transitions) shown))
-  pub act-early : Activates (steps (m .transitions) shown) (earlyWord (steps (m .transitions) shown) k last)
-  pub kept : Before (steps (m .transitions) shown) (lateWord (steps (m .transitions) shown)) k last
-  pub turned : Before (steps (m .transitions) shown) (earlyWord (steps (m .transitions) shown) k last) last k
+  pub shows : Shows (steps (m .transitions) shown) k last
   pub traced : trace ≡ shown ++ drop (length shown) trace₀
-  pub stamped : stamps ≡ stampsOf (lateWord (steps (m .transitions) shown))
-      ++ (stampsOf (earlyWord (steps (m .transitions) shown) k last) ++ drop (2 * length shown) stamps₀)
+  pub stamped : stamps ≡ shownStamps (steps (m .transitions) shown) k last stamps₀
 
 abbrev pub TableOutcome : Table → List ℕ → List ℕ → OnTable → List ℕ → List ℕ → Type 0
 TableOutcome t trace₀ stamps₀ StrictTable trace stamps =

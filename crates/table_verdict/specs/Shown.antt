@@ -2,16 +2,16 @@
 use mathlib.Core.Path.{_≡_}
 use mathlib.Core.Bool.{cond}
 use mathlib.Core.List.{List, [], _∷_, _++_}
-use Prim.Native.Nat.{ℕ, suc, _+_, _*_, _≤_, _<_}
+use Prim.Native.Nat.{ℕ, suc, _+_, _≤_, _<_}
 use lib.Dec.{ltb}
 use lib.ListN.{length, drop}
 use Rattle.model.specs.Table.{Transition, at}
 use Rattle.model.specs.Trace.{Trace, steps}
-use Rattle.model.specs.Shown.{splitWord, lateWord, earlyWord}
-use Rattle.model.specs.Stamps.{stampsOf}
+use Rattle.model.specs.Shown.{splitWord}
+use Rattle.model.specs.Stamps.{stampsOf, shownStamps}
 use Rattle.table_verdict.specs.declared.OnTable.{OnTable}
 use Rattle.table_verdict.specs.declared.OnTable.the-variants.{Split, Turning}
-use Rattle.table_verdict.specs.Walks.{TurnsTo, TurnsAfter}
+use Rattle.table_verdict.specs.Walks.{TurnsTo}
 use Rattle.table_verdict.specs.Reach.{Linked, mark, wayTo}
 
 -- a transition of a reached state, and room to show a trace that goes there
@@ -43,10 +43,8 @@ pub record TurnStands (ts : List Transition) (dist via : List ℕ) (k : ℕ) (tr
   pub answer : r ≡ Turning (length (wayTo ts dist via (at ts k .from)) + 1) (length (walkedTo ts dist via k (turns .rest) m))
   pub few : length (walkedTo ts dist via k (turns .rest) m) ≤ 270
   pub traced : trace ≡ walkedTo ts dist via k (turns .rest) m ++ drop (length (walkedTo ts dist via k (turns .rest) m)) trace₀
-  pub stamped : stamps ≡ stampsOf (lateWord (steps ts (walkedTo ts dist via k (turns .rest) m)))
-      ++ (stampsOf (earlyWord (steps ts (walkedTo ts dist via k (turns .rest) m)) (length (wayTo ts dist via (at ts k .from)))
-      (length (wayTo ts dist via (at ts k .from)) + suc (length (turns .rest))))
-      ++ drop (2 * length (walkedTo ts dist via k (turns .rest) m)) stamps₀)
+  pub stamped : stamps ≡ shownStamps (steps ts (walkedTo ts dist via k (turns .rest) m)) (length (wayTo ts dist via (at ts k .from)))
+      (length (wayTo ts dist via (at ts k .from)) + suc (length (turns .rest))) stamps₀
 
 -- of the numbers i and j the one with the lesser v
 abbrev pub earlier : ℕ → ℕ → ℕ → ℕ → ℕ

@@ -1,15 +1,13 @@
 -- What the search is handed, walks of a table with their sums, and the pairs that turn.
 use mathlib.Core.Path.{_≡_}
-use mathlib.Core.Bool.{Bool, true, false}
 use mathlib.Core.List.{List, [], _∷_, _++_}
 use Prim.Native.Nat.{ℕ, _+_, _≤_, _<_}
 use lib.ListN.{length, getD, take, drop}
-use Rattle.model.specs.Lists.{All, total}
+use Rattle.model.specs.Lists.{total}
 use Rattle.model.specs.Table.{Transition, InRange, at}
 use Rattle.model.specs.Trace.{Trace, steps}
 use Rattle.model.specs.Span.{span}
 use Rattle.model.specs.Shown.{lateGap}
-use Rattle.table.specs.Rows.{rows}
 use Rattle.table_verdict.specs.declared.search.Found.{Found}
 use Rattle.table_verdict.specs.declared.search.Found.the-variants.{At, Nothing}
 
@@ -53,11 +51,6 @@ pub record StartsAt (ts : List Transition) (dist : List ℕ) (s k : ℕ) : Type 
 -- transition k leaves a reached state and can be step k of a turning pair
 abbrev pub Starts : List Transition → List ℕ → ℕ → Type 0
 Starts ts dist k = StartsAt ts dist (at ts k .to) k
-
--- a test that tells whether P
-abbrev pub Tells : Bool → Type 0 → Type 0
-Tells true P = P
-Tells false P = P → ⊥
 
 -- the least number of which P holds, if there is one
 abbrev pub Least : (ℕ → Type 0) → Found → Type 0

@@ -4,9 +4,9 @@ use table::Cells;
 use table::Row;
 ghost use mathlib.Core.Path.{_≡_};
 ghost use Prim.Native.Nat.{_<_};
+ghost use Rattle.model.specs.Answers.{Tells};
 ghost use Rattle.table.specs.Rows.{rows, said};
 ghost use Rattle.table_verdict.specs.Sound.{Sound};
-ghost use Rattle.table_verdict.specs.Walks.{Tells};
 ghost use Rattle.table_verdict.specs.Neighbours.{Overtakes, Overtaken, AnyOvertaken};
 
 // Whether m can follow k and overtake it.

@@ -5,11 +5,11 @@ use table::row_of;
 ghost use mathlib.Core.Path.{_≡_};
 ghost use Prim.Native.Nat.{_<_, min, max};
 ghost use lib.ListN.{length};
+ghost use Rattle.model.specs.Answers.{Tells};
 ghost use Rattle.model.specs.Verdict.{Overlap};
 ghost use Rattle.table.specs.Rows.{rows, said};
 ghost use Rattle.table_verdict.specs.Sound.{Sound};
 ghost use Rattle.table_verdict.specs.Split.{Forks, Partner, SplitOf};
-ghost use Rattle.table_verdict.specs.Walks.{Tells};
 
 pub(crate) enum Found {
     Pair(usize, usize),

@@ -10,9 +10,10 @@ use table::Cells;
 ghost use mathlib.Core.Path.{_≡_};
 ghost use Prim.Native.Nat.{ℕ, _+_, _*_, _-_, _<_, _≤_};
 ghost use lib.ListN.{length};
+ghost use Rattle.model.specs.Answers.{Tells};
 ghost use Rattle.table.specs.Rows.{rows};
 ghost use Rattle.table_verdict.specs.Sound.{Sound};
-ghost use Rattle.table_verdict.specs.Walks.{TurnsTo, TurnsAfter, Tells, ShownWalk, ShownLeast};
+ghost use Rattle.table_verdict.specs.Walks.{TurnsTo, TurnsAfter, ShownWalk, ShownLeast};
 ghost use Rattle.table_verdict.specs.Best.{ReadyFor, Explains, Explained, LeastRow, Back, EndRow, Went};
 
 fn low(x: usize) -> u16

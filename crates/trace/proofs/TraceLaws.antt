@@ -1,6 +1,5 @@
 -- Traces place by place, and what a list that a call is handed names in a table value.
 use mathlib.Core.Path.{_≡_, refl, sym, ap, _∙_}
-use mathlib.Core.Bool.{true, false}
 use mathlib.Core.Logic.{⊎-elim, _↔_}
 use mathlib.Core.List.{List, [], _∷_}
 use Prim.Native.Nat.{ℕ, zero, suc, _+_, _-_, _≤_, _<_}
@@ -10,21 +9,16 @@ use lib.ListN.{length, getD}
 use Rattle.model.specs.Lists.{All}
 use Rattle.model.specs.Table.{Transition, InRange, at}
 use Rattle.model.specs.Trace.{Trace, Handed}
-use Rattle.model.proofs.Paths.{length-steps, at-steps, trace-ranged}
+use Rattle.model.proofs.Paths.{length-steps, trace-ranged}
 use Rattle.table.specs.declared.Table.{Table}
 use Rattle.table.specs.declared.Checked.the-variants.{Sound}
-use Rattle.table.specs.Rows.{rows, rowAt, rowOf, said}
+use Rattle.table.specs.Rows.{rows, rowOf, said, named}
 use Rattle.table.specs.Check.{checkOf}
 use Rattle.table.proofs.RowLaws.{row-near, length-rows, at-rows}
+use Rattle.table.proofs.NamedLaws.{named-trace}
 use Rattle.table.proofs.TestLaws.{sound-valid}
-use Rattle.trace.specs.Named.{Judged, stepsIn, TraceIn}
+use Rattle.trace.specs.Named.{stepsIn, TraceIn}
 use Rattle.trace.specs.Places.{Names, Joins}
-
-pub judged-yes : {P : Type 0} → P → Judged P true
-judged-yes p = record { right = λ e. p; wrong = λ e. absurd (let z : _≡_ {A = ℕ} 0 1 = cc in omega arith) }
-
-pub judged-no : {P : Type 0} → (P → ⊥) → Judged P false
-judged-no n = record { right = λ e. absurd (let z : _≡_ {A = ℕ} 0 1 = cc in omega arith); wrong = λ e. n }
 
 module _ (ts : List Transition) where
   pub trace-names : (s e : ℕ) (l : List ℕ) → Trace ts s l e → Names (length ts) l
@@ -112,15 +106,9 @@ module _ (t : Table) (l : List ℕ) where
   length-steps-in = length-steps (rows (t .cells) (t .count)) l
 
   module _ (h : Handed (rows (t .cells) (t .count)) l) where
-    pub handed-names : Names (t .count) l
-    handed-names = rw (length-rows (t .cells) (t .count)) at (trace-names (rows (t .cells) (t .count)) (h .start) (h .end) l (h .path))
-
-    pub at-steps-in : (i : ℕ) → i < length l → at (stepsIn t l) i ≡ said (rowAt (t .cells) (getD l i 0))
-    at-steps-in i k = at-steps (rows (t .cells) (t .count)) l i k ∙ at-rows (t .cells) (t .count) (getD l i 0) (handed-names i k)
-
-    -- the row that the code looks up
-    pub row-steps-in : t .count ≤ 256 → (i : ℕ) → i < length l → at (stepsIn t l) i ≡ said (rowOf (t .cells) (getD l i 0))
-    row-steps-in few i k = at-steps-in i k ∙ sym (ap said (row-near (t .cells) (getD l i 0) (omega (arith, handed-names i k))))
+    -- the transitions that the code looks up
+    pub named-in : t .count ≤ 256 → named (t .cells) l ≡ stepsIn t l
+    named-in few = named-trace (t .cells) (t .count) few (h .start) (h .end) l (h .path)
 
     pub handed-ranged : checkOf t ≡ Sound → All (InRange (t .states)) (stepsIn t l)
     handed-ranged e = trace-ranged (rows (t .cells) (t .count)) (sound-valid t e .1 .ranged) (h .start) (h .end) l (h .path)

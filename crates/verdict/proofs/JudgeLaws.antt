@@ -8,26 +8,27 @@ use native.Mathlib.Omega.{arith}
 use lib.ListN.{length, drop}
 use Rattle.model.specs.Lists.{All}
 use Rattle.model.specs.Table.{Transition, InRange}
+use Rattle.model.specs.Stamps.{shownStamps}
 use Rattle.model.proofs.Words.{words-show}
 use Rattle.model.proofs.Pair.{turns-law, turning-law}
 use Rattle.table.specs.declared.Table.{Table}
 use Rattle.table.specs.declared.Checked.the-variants.{Sound, Refused as CheckRefused}
 use Rattle.table.specs.declared.Refusal.{Refusal}
 use Rattle.table.specs.declared.Refusal.the-variants.{NoTrace, NoRoom}
+use Rattle.table.specs.Rows.{named}
 use Rattle.table.specs.Check.{checkOf}
 use Rattle.table.specs.Tests.{Test, Passes}
+use Rattle.table.proofs.NamedLaws.{length-named}
 use Rattle.table.proofs.TestLaws.{passes-fails, fails-only, sound-valid, sound-passes, sound-fails, refused-fails}
 use Rattle.trace.specs.Named.{stepsIn, TraceIn}
-use Rattle.trace.proofs.TraceLaws.{handed-ranged}
-use Rattle.words.specs.Shows.{named, Ready, wordsLeft}
-use Rattle.words.proofs.StepLaws.{length-named}
+use Rattle.trace.proofs.TraceLaws.{named-in, handed-ranged}
+use Rattle.words.specs.Shows.{Ready, wordsLeft}
 use Rattle.words.proofs.WordLaws.{words-plain}
 use Rattle.verdict.specs.declared.OnTrace.{OnTrace}
 use Rattle.verdict.specs.declared.OnTrace.the-variants.{Steady, Turning as TurningAt, Refused}
 use Rattle.verdict.specs.declared.pairs.Pair.the-variants.{At, Nowhere}
-use Rattle.verdict.specs.OnTrace.{traceTests, LeastPair, shownStamps, TraceOutcome}
+use Rattle.verdict.specs.OnTrace.{traceTests, LeastPair, TraceOutcome}
 use Rattle.verdict.specs.Pairs.{PairOf}
-use Rattle.verdict.proofs.StepLaws.{named-steps, named-ready}
 
 -- the tests after those of the table
 abbrev pub own : Table → List ℕ → List ℕ → List Test
@@ -46,14 +47,14 @@ pub record Tested (t : Table) (trace : List ℕ) : Type 0 where
   pub handed : TraceIn (t .cells) (t .count) trace
 
 module _ {t : Table} {trace : List ℕ} (h : Tested t trace) where
-  pub ready : Ready (t .cells) trace
-  ready = named-ready t trace (h .sound) (h .handed .1)
-
   same : named (t .cells) trace ≡ stepsIn t trace
-  same = named-steps t trace (h .sound) (h .handed .1)
+  same = named-in t trace (h .handed .1) (h .handed .0)
 
   good : All (InRange (t .states)) (stepsIn t trace)
   good = handed-ranged t trace (h .handed .1) (h .sound)
+
+  pub ready : Ready (t .cells) trace
+  ready = record { few = h .handed .1 .most; states = t .states; ranged = rw same good }
 
   -- the places of a pair are small
   pub pair-near : {k m : ℕ} → PairOf (named (t .cells) trace) (At k m) → (k < 512) × (m < 512)
@@ -78,7 +79,6 @@ module _ {t : Table} {trace : List ℕ} (h : Tested t trace) where
           → TraceOutcome t trace stamps (TurningAt (k + 1) (m + 1)) after
       turning k m after p w =
           let q : PairOf (stepsIn t trace) (At k m) = rw same at p in
-          let s : _ = words-show good k m (q .0) in
           record {
             tested = passes;
             turning = turning-law good .1 (k, m, q .0);
@@ -87,7 +87,7 @@ module _ {t : Table} {trace : List ℕ} (h : Tested t trace) where
             first-step = add-one k;
             second-step = add-one m;
             pair = record { turns = turns-law good k m .1 (q .0); least = λ i j x. q .1 i j (turns-law good i j .0 x) };
-            shows = record { act-late = s .0; act-early = s .1; kept = s .2; turned = s .3 };
+            shows = words-show good k m (q .0);
             written = w ∙ plain k m;
           }
 

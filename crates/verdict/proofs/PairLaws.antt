@@ -13,9 +13,9 @@ use Rattle.model.specs.Table.{Transition, InRange, at, none}
 use Rattle.model.specs.Span.{sumU, sumV, Criterion}
 use Rattle.model.proofs.Lists.{total-append, total-const, length-between, all-at, all-between, all-total}
 use Rattle.table.specs.declared.Row.{Row}
-use Rattle.table.specs.Rows.{rowOf, said}
-use Rattle.words.specs.Shows.{named, Ready}
-use Rattle.words.proofs.StepLaws.{length-named, step-named}
+use Rattle.table.specs.Rows.{rowOf, said, named}
+use Rattle.table.proofs.NamedLaws.{length-named, step-named}
+use Rattle.words.specs.Shows.{Ready}
 use Rattle.verdict.specs.declared.pairs.Partner.the-variants.{With, Alone}
 use Rattle.verdict.specs.declared.pairs.Pair.the-variants.{At, Nowhere}
 use Rattle.verdict.specs.Pairs.{Between, PartnerOf, PairOf}

@@ -2,8 +2,9 @@
 use table::Cells;
 ghost use Prim.Native.Nat.{_+_, _^_, _<_};
 ghost use lib.ListN.{length};
-ghost use Rattle.trace.specs.Named.{Judged};
-ghost use Rattle.words.specs.Shows.{named, Ready};
+ghost use Rattle.model.specs.Answers.{Tells};
+ghost use Rattle.table.specs.Rows.{named};
+ghost use Rattle.words.specs.Shows.{Ready};
 ghost use Rattle.verdict.specs.Pairs.{Between, PartnerOf, PairOf};
 
 // The step that turns with another.
@@ -21,7 +22,7 @@ pub(crate) enum Pair {
 // U < D ≤ V for the delays of k and m, written without a difference.
 fn turns(u: u32, v: u32, first: u32, second: u32) -> bool
     requires { ⌜ (u + second < 2 ^ 32) × (v + second < 2 ^ 32) ⌝ }
-    ensures { λ b. ⌜ Judged (Between u v first second) b ⌝ }
+    ensures { λ b. ⌜ Tells b (Between u v first second) ⌝ }
 {
     if first <= u + second {
         return false;

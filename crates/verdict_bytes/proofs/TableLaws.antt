@@ -103,7 +103,7 @@ module _ (t : Table) (trace₀ stamps₀ t₀ s₀ : List ℕ) (room : Passes (r
       let n : length (a .shown) ≡ l = a .ends ∙ sym (a .second-step) in
       let few : l ≤ 270 = turning-few t t₀ s₀ (p, a) in
       let both : length (one ++ two) ≡ 2 * l =
-      length-append one two ∙ omega (arith, stamps-long ts (a .shown) late (a .act-late), stamps-long ts (a .shown) early (a .act-early)) in (
+      length-append one two ∙ omega (arith, stamps-long ts (a .shown) late (a .shows .act-late), stamps-long ts (a .shown) early (a .shows .act-early)) in (
         room,
         record {
           steps = a .shown;
@@ -122,12 +122,9 @@ module _ (t : Table) (trace₀ stamps₀ t₀ s₀ : List ℕ) (room : Passes (r
             lowest = a .lowest;
             earliest = a .earliest;
             turns = a .turns;
-            act-late = a .act-late;
-            act-early = a .act-early;
-            kept = a .kept;
-            turned = a .turned;
+            shows = a .shows;
             traced = alone (length (a .shown)) (a .shown);
-            stamped = ap (λ (r : List ℕ). one ++ r) (alone (2 * length (a .shown)) two);
+            stamped = ap (λ (r : List ℕ). one ++ r) (alone (2 * length (steps ts (a .shown))) two);
           };
           traced = shown-back 2 l (a .shown) (drop (length (a .shown)) t₀) u trace₀ trace n (omega arith) (a .traced) e;
           stamped = shown-back 4 (2 * l) (one ++ two) _ s stamps₀ stamps both (omega arith) (a .stamped ∙ sym (append-assoc one two _)) f;

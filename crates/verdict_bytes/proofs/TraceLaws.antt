@@ -7,6 +7,7 @@ use lib.ListN.{length, take, drop, length-append, length-take}
 use lib.Seq.{take-append-le, drop-nil}
 use Rattle.model.specs.Table.{Transition}
 use Rattle.model.specs.Trace.{Handed}
+use Rattle.model.specs.Stamps.{shownStamps}
 use Rattle.model.proofs.StampLaws.{early-stamps, late-stamps}
 use Rattle.wire.specs.Bytes.{bytes, placed, wholes}
 use Rattle.table.specs.declared.Table.{Table}
@@ -19,7 +20,7 @@ use Rattle.trace.specs.Named.{stepsIn}
 use Rattle.trace.proofs.TraceLaws.{length-steps-in}
 use Rattle.verdict.specs.declared.OnTrace.{OnTrace}
 use Rattle.verdict.specs.declared.OnTrace.the-variants.{Steady, Turning, Refused}
-use Rattle.verdict.specs.OnTrace.{traceTests, shownStamps, AnswersTurning, TraceOutcome}
+use Rattle.verdict.specs.OnTrace.{traceTests, AnswersTurning, TraceOutcome}
 use Rattle.verdict.proofs.JudgeLaws.{own}
 use Rattle.places.specs.Places.{pathIn, fitted, handedOn, Decoded}
 use Rattle.places.proofs.PlaceLaws.{length-wholes, decoded-take, handed-whole, trace-whole, whole-trace, trace-count, back}

@@ -5,6 +5,8 @@ use Prim.Native.Nat.{ℕ, suc, _*_, _/_, _≤_}
 use lib.ListN.{length, drop}
 use Rattle.model.specs.Table.{Machine}
 use Rattle.model.specs.Verdict.{Turning}
+use Rattle.model.specs.Shown.{Shows}
+use Rattle.model.specs.Stamps.{shownStamps}
 use Rattle.wire.specs.Bytes.{bytes}
 use Rattle.table.specs.declared.Refusal.the-variants.{NoRoom}
 use Rattle.table.specs.Tests.{Test, unless, Passes, Fails}
@@ -13,7 +15,7 @@ use Rattle.places.specs.OnFile.{onFile}
 use Rattle.places.specs.Places.{pathIn, traceTest}
 use Rattle.verdict.specs.declared.OnTrace.{OnTrace}
 use Rattle.verdict.specs.declared.OnTrace.the-variants.{Steady, Turning as TurningAt, Refused}
-use Rattle.verdict.specs.OnTrace.{LeastPair, Shows, shownStamps}
+use Rattle.verdict.specs.OnTrace.{LeastPair}
 
 -- the tests after the file's: "a trace verdict, steady or not, needs two stamps per step"
 abbrev pub bytesTests : Machine → List ℕ → List ℕ → List Test

@@ -11,15 +11,15 @@ use Rattle.model.specs.Lists.{All, total}
 use Rattle.model.specs.Table.{Transition, InRange, at}
 use Rattle.model.specs.Word.{Symbol, Word, Activates}
 use Rattle.model.specs.Shown.{earlyGapAt, symbol, earlyWord, lateWord}
-use Rattle.model.specs.Stamps.{stampsAfter, stampsOf}
+use Rattle.model.specs.Stamps.{stampsAfter, stampsOf, shownStamps}
 use Rattle.model.proofs.Lists.{total-append, total-const, all-total}
 use Rattle.model.proofs.Pair.{gaps-high}
 use Rattle.model.proofs.Words.{early-activates}
 use Rattle.model.proofs.StampLaws.{early-late, length-stamps, stamps-last, early-parts, early-length, early-symbol, late-stamps}
 use Rattle.table.specs.declared.Row.{Row}
-use Rattle.table.specs.Rows.{rowOf, said}
-use Rattle.words.specs.Shows.{named, Ready, wrapped, wordLeft, wordsLeft}
-use Rattle.words.proofs.StepLaws.{length-named, step-named}
+use Rattle.table.specs.Rows.{rowOf, said, named}
+use Rattle.table.proofs.NamedLaws.{length-named, step-named}
+use Rattle.words.specs.Shows.{Ready, wrapped, wordLeft, wordsLeft}
 
 length-wrapped : (l : List ℕ) → length (wrapped l) ≡ length l
 unfolding wrapped
@@ -81,7 +81,7 @@ module _ (c l : List ℕ) (k m : ℕ) (out₀ : List ℕ) where
     word-plain h = rw (plain-early m) at (word-fits h)
 
     pub words-plain : 2 * length l ≤ length out₀
-        → wordsLeft c l k m out₀ ≡ stampsOf (lateWord tr) ++ (stampsOf (earlyWord tr k m) ++ drop (2 * length tr) out₀)
+        → wordsLeft c l k m out₀ ≡ shownStamps tr k m out₀
     words-plain h = rw (length-named c l) (rw (plain-early m, plain-late) at (words-fit h))
 
 -- the symbols of the word that is written

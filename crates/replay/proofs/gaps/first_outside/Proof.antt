@@ -3,13 +3,13 @@ use native.Mathlib.Omega.{arith}
 use Prim.Native.Nat.{_≤_, _-_}
 use lib.ListN.{length}
 use borrow.Author.Tests.{not-true, not-false}
-use Rattle.replay.specs.Tried.{rowsOf}
+use Rattle.table.specs.Rows.{named}
 use Rattle.replay.proofs.GapLaws.{Passed, none-passed, all-passed, one-passed, stopped}
 use Rattle.replay.proofs.gaps.first_outside.Statement.{statement}
 use Rattle.replay.proofs.gaps.first_outside.Tie as tie
 
 abbrev Inv-loop : tie.InvT-loop
-Inv-loop cells trace start stamps before₀ i₀ before i = (i ≤ length trace) × Passed (rowsOf cells trace) start stamps before i
+Inv-loop cells trace start stamps before₀ i₀ before i = (i ≤ length trace) × Passed (named cells trace) start stamps before i
 
 abbrev μ-loop : tie.MeasureT-loop
 μ-loop cells trace start stamps before₀ i₀ before i = length trace - i
@@ -42,7 +42,7 @@ returns c =
     let row = c .before .before .before .step-row in
     let gap = c .before .before .gap in
     stopped (a .cells .now) (a .trace .now) (a .start) (a .stamps .now) (omega arith) (l .before) (l .i) (l .inv .1) (omega arith)
-    (row .result) (gap .result) (row .ensures) (gap .ensures) (c .before .inside .ensures) (not-true _ (c .if1 .taken))
+    (row .result) (gap .result) (c .before .inside .result) (row .ensures) (gap .ensures) (c .before .inside .ensures) (not-true _ (c .if1 .taken))
 
 add-i : tie.Need-add-i Inv-loop μ-loop
 add-i c = search needs
@@ -58,7 +58,7 @@ loop-again c =
     let gap = c .before .before .gap in (
       omega arith,
       one-passed (a .cells .now) (a .trace .now) (a .start) (a .stamps .now) (omega arith) (l .before) (l .i) (l .inv .1) (omega arith)
-          (row .result) (gap .result) (row .ensures) (gap .ensures) (c .before .inside .ensures) (not-false _ (c .if1 .left)),
+          (row .result) (gap .result) (c .before .inside .result) (row .ensures) (gap .ensures) (c .before .inside .ensures) (not-false _ (c .if1 .left)),
     )
 
 returns-2 : tie.Need-returns-2 Inv-loop μ-loop

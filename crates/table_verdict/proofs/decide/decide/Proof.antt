@@ -2,10 +2,11 @@ use borrow.Author.Needs.{needs}
 use borrow.Author.Tests.{not-true}
 use native.Mathlib.Omega.{arith}
 use mathlib.Core.Path.{_≡_}
+use Rattle.model.proofs.AnswerLaws.{untold}
 use Rattle.table.specs.Rows.{rows}
 use Rattle.table.proofs.RowLaws.{length-rows}
 use Rattle.table_verdict.specs.Decided.{turns-not}
-use Rattle.table_verdict.proofs.WalkLaws.{sound-fine, untold}
+use Rattle.table_verdict.proofs.WalkLaws.{sound-fine}
 use Rattle.table_verdict.proofs.NeighbourLaws.{none-starts}
 use Rattle.table_verdict.proofs.DecideLaws.{show-room, split-decided, turn-decided}
 use Rattle.table_verdict.proofs.decide.decide.Statement.{statement}

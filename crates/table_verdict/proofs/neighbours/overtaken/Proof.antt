@@ -2,11 +2,11 @@ use borrow.Author.Needs.{needs}
 use borrow.Author.Count.{below-more}
 use native.Mathlib.Omega.{arith}
 use Prim.Native.Nat.{ℕ, _≤_, _<_, _-_}
+use Rattle.model.proofs.AnswerLaws.{told, untold}
 use Rattle.model.specs.Table.{at}
 use Rattle.table.specs.Rows.{rows}
 use Rattle.table.proofs.RowLaws.{length-rows}
 use Rattle.table_verdict.specs.Neighbours.{Overtakes}
-use Rattle.table_verdict.proofs.WalkLaws.{told, untold}
 use Rattle.table_verdict.proofs.NeighbourLaws.{overtaken-by, not-by, not-overtaken}
 use Rattle.table_verdict.proofs.neighbours.overtaken.Statement.{statement}
 use Rattle.table_verdict.proofs.neighbours.overtaken.Tie as tie

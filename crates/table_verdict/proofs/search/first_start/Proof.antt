@@ -2,9 +2,9 @@ use borrow.Author.Needs.{needs}
 use borrow.Author.Count.{below-more}
 use native.Mathlib.Omega.{arith}
 use Prim.Native.Nat.{ℕ, _≤_, _<_, _-_}
+use Rattle.model.proofs.AnswerLaws.{told, untold}
 use Rattle.table.specs.Rows.{rows}
 use Rattle.table_verdict.specs.Walks.{StartsAt}
-use Rattle.table_verdict.proofs.WalkLaws.{told, untold}
 use Rattle.table_verdict.proofs.EndLaws.{below-at, below-end, ready-less}
 use Rattle.table_verdict.proofs.search.first_start.Statement.{statement}
 use Rattle.table_verdict.proofs.search.first_start.Tie as tie

@@ -1,7 +1,7 @@
 use borrow.Author.Needs.{needs}
 use borrow.Author.Tests.{not-true}
 use native.Mathlib.Omega.{arith}
-use Rattle.table_verdict.proofs.WalkLaws.{untold}
+use Rattle.model.proofs.AnswerLaws.{untold}
 use Rattle.table_verdict.proofs.EndLaws.{top-more}
 use Rattle.table_verdict.proofs.search.raised.Statement.{statement}
 use Rattle.table_verdict.proofs.search.raised.Tie as tie

@@ -1,8 +1,8 @@
 use borrow.Author.Needs.{needs}
 use borrow.Author.Tests.{not-true, not-false}
+use Rattle.model.proofs.AnswerLaws.{told, untold}
 use Rattle.table.specs.Rows.{rows}
 use Rattle.table_verdict.specs.Walks.{TurnsTo}
-use Rattle.table_verdict.proofs.WalkLaws.{told, untold}
 use Rattle.table_verdict.proofs.EndLaws.{ready-for, is-start, least-not}
 use Rattle.table_verdict.proofs.search.starts.Statement.{statement}
 use Rattle.table_verdict.proofs.search.starts.Tie as tie

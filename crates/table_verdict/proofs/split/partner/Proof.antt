@@ -6,6 +6,7 @@ use Prim.Native.Nat.{ℕ, _≤_, _<_, _-_}
 use lib.ListN.{length}
 use native.Mathlib.Nat.{pos-of-ne-zero}
 use borrow.Author.Count.{below-more}
+use Rattle.model.proofs.AnswerLaws.{told, untold}
 use Rattle.model.specs.Table.{Transition, at}
 use Rattle.table.specs.Rows.{rows}
 use Rattle.table.proofs.RowLaws.{length-rows}
@@ -13,7 +14,6 @@ use Rattle.table_verdict.specs.Reach.{mark}
 use Rattle.table_verdict.specs.Split.{MarkedPair}
 use Rattle.table_verdict.proofs.SoundLaws.{row-said, row-leaves}
 use Rattle.table_verdict.proofs.SplitLaws.{partner-none}
-use Rattle.table_verdict.proofs.WalkLaws.{told, untold}
 use Rattle.table_verdict.proofs.split.partner.Statement.{statement}
 use Rattle.table_verdict.proofs.split.partner.Tie as tie
 

@@ -4,8 +4,8 @@ use mathlib.Core.Path.{_≡_, refl}
 use Prim.Native.Nat.{_≤_, _-_}
 use lib.ListN.{length}
 use denote.Enum.Declared.{tagOf}
-use Rattle.words.specs.Shows.{named}
-use Rattle.words.proofs.StepLaws.{length-named}
+use Rattle.table.specs.Rows.{named}
+use Rattle.table.proofs.NamedLaws.{length-named}
 use Rattle.verdict.specs.declared.pairs.Partner.{Partner}
 use Rattle.verdict.proofs.pairs.Partner.{the-type}
 use Rattle.verdict.proofs.PairLaws.{Passed, passed-none, passed-more, passed-all, least-here}

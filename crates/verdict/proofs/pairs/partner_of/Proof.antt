@@ -1,6 +1,7 @@
 use borrow.Author.Needs.{needs}
 use native.Mathlib.Omega.{arith}
 use Prim.Native.Nat.{_+_, _-_}
+use Rattle.model.proofs.AnswerLaws.{told, untold}
 use Rattle.verdict.proofs.PairLaws.{Looked, looked-first, looked-last, next-small, none-later, turns-here, looked-more}
 use Rattle.verdict.proofs.pairs.partner_of.Statement.{statement}
 use Rattle.verdict.proofs.pairs.partner_of.Tie as tie
@@ -71,7 +72,7 @@ returns-2 : tie.Need-returns-2 Inv-loop μ-loop
 returns-2 c =
     let s = c .before .before .before .before .before .before .step2 in
     let l = c .before .before .before .before .before .before .before .before .loop in
-    turns-here (l .inv) (omega arith) (s .result) (s .ensures) (c .before .turns .ensures .right (c .if2 .taken))
+    turns-here (l .inv) (omega arith) (s .result) (s .ensures) (told (c .before .turns .result) (c .before .turns .ensures) (c .if2 .taken))
 
 add-m-2 : tie.Need-add-m-2 Inv-loop μ-loop
 add-m-2 c = search needs
@@ -83,7 +84,7 @@ loop-again : tie.Need-loop-again Inv-loop μ-loop
 loop-again c =
     let s = c .before .before .before .before .before .before .step2 in
     let l = c .before .before .before .before .before .before .before .before .loop in
-    looked-more (l .inv) (omega arith) (s .result) (s .ensures) (omega (arith, c .before .before .before .if1 .left)) (c .before .turns .ensures .wrong (c .if2 .left))
+    looked-more (l .inv) (omega arith) (s .result) (s .ensures) (omega (arith, c .before .before .before .if1 .left)) (untold (c .before .turns .result) (c .before .turns .ensures) (c .if2 .left))
 
 returns-3 : tie.Need-returns-3 Inv-loop μ-loop
 returns-3 c = looked-last (c .before .loop .inv) (c .loop-test .left)
