@@ -2,31 +2,30 @@
 use mathlib.Core.Path.{_≡_, refl, sym, ap, _∙_}
 use mathlib.Core.Bool.{Bool, true, false, cond}
 use mathlib.Core.List.{List, [], _∷_, _++_}
-use mathlib.Core.Logic.{_⊎_, inl, inr, ⊎-elim, dite}
+use mathlib.Core.Logic.{dite}
 use native.Mathlib.Decide.{decLt}
-use Prim.Native.Nat.{ℕ, zero, suc, _+_, _-_, _*_, _≤_, _<_}
+use Prim.Native.Nat.{ℕ, zero, suc, _+_, _-_, _≤_, _<_}
 use native.Mathlib.Omega.{arith}
-use borrow.Author.Tests.{lt-ltb, le-ltb, le-leb, lt-leb, ltb-false, ltb-true, leb-true}
-use lib.Dec.{leb, ltb, eqb}
-use lib.ListN.{length, take, drop, length-append, length-drop}
+use borrow.Author.Tests.{le-leb, lt-leb}
+use lib.Dec.{ltb}
+use lib.ListN.{length, drop, length-append, length-drop}
 use lib.Seq.{drop-drop}
 use Rattle.model.specs.Table.{Transition, Machine}
 use Rattle.table.specs.declared.Refusal.{Refusal}
-use Rattle.table.specs.declared.Refusal.the-variants.{Cut, Misplaced, Full, OutOfRange, Repeated}
+use Rattle.table.specs.declared.Refusal.the-variants.{Misplaced, Full, OutOfRange, Repeated}
 use Rattle.table.specs.declared.Row.{Row}
 use Rattle.table.specs.declared.Checked.{Checked}
 use Rattle.table.specs.declared.Checked.the-variants.{Sound, Refused}
 use Rattle.table.specs.declared.Frame.{Frame}
 use Rattle.table.specs.declared.Frame.the-variants.{Bad, Took, Last}
-use Rattle.table.specs.declared.Reading.{Reading}
 use Rattle.table.specs.declared.Opening.the-variants.{Opened, Shut}
 use Rattle.table.specs.declared.Counted.{Counted}
 use Rattle.table.specs.declared.Counted.the-variants.{Count, Stop}
 use Rattle.table.specs.Rows.{rows, said, putRow, cellsOf}
 use Rattle.table.specs.Check.{inRange, has}
-use Rattle.table.specs.File.{headIn, readFile, readingOf, machine, stopped, kindIn, whole, frameIn, Found, found, refused, onFrame, ended, admitted, rowsFrom, RowsOutcome, finishOf, admitOf, admitCells}
+use Rattle.table.specs.File.{headIn, readFile, readingOf, machine, stopped, whole, frameIn, Found, found, refused, ended, admitted, rowsFrom, RowsOutcome, finishOf, admitOf}
 use Rattle.table.proofs.RowLaws.{length-rows}
-use Rattle.table.proofs.FrameLaws.{took-says, last-says, admit-full}
+use Rattle.table.proofs.FrameLaws.{took-says, admit-full}
 use Rattle.table.proofs.CellLaws.{rows-cells, put-cells}
 
 -- one record decides the next step of the scan

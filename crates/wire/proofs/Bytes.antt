@@ -1,6 +1,5 @@
 -- Laws of numbers in bytes, once for every width w.
 use mathlib.Core.Path.{_≡_, refl, sym, ap, _∙_}
-use mathlib.Core.Bool.{cond}
 use mathlib.Core.Logic.{dite}
 use mathlib.Core.List.{List, [], _∷_, _++_, append-assoc, append-nil}
 use Prim.Native.Nat.{ℕ, zero, suc, _+_, _*_, _-_, _%_, _/_, _^_, min, _≤_, _<_}
@@ -10,7 +9,7 @@ use native.Mathlib.Nat.{pow-succ'}
 use native.Mathlib.Omega.{arith}
 use borrow.Author.Tests.{le-leb, lt-leb}
 use lib.ListN.{length, take, drop, getD, set, length-append, length-take, length-drop, take-append-drop, List·getD-eq-default}
-use lib.Seq.{sets, sets-eq, set-at, take-at, take-add, drop-at, drop-append-add, drop-drop, drop-cons, take-suc, take-length, getD-append-add, getD-drop, getD-take}
+use lib.Seq.{sets, sets-eq, set-at, take-at, take-add, drop-at, drop-append-add, drop-drop, drop-cons, take-suc, take-length, getD-drop, getD-take}
 use Rattle.wire.specs.Bytes.{le, digits, bytes, placed, Bytes, les, taken}
 
 pub length-digits : (w x : ℕ) → length (digits w x) ≡ w

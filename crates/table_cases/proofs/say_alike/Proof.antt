@@ -1,18 +1,9 @@
 use borrow.Author.Needs.{needs}
 use native.Mathlib.Omega.{arith}
-use native.Mathlib.Numerals.{add-one}
-use mathlib.Core.Path.{_≡_, refl, sym, ap, _∙_}
-use mathlib.Core.Bool.{Bool, true, false}
-use mathlib.Core.List.{List, [], _∷_, _++_}
-use Prim.Native.Nat.{ℕ, _+_, _*_, _≤_, _<_, _-_}
-use lib.ListN.{length, take, drop, getD, set}
+use Prim.Native.Nat.{_-_}
 use lib.ListN.{length-take}
 use Rattle.table_cases.proofs.say_alike.Statement.{statement}
 use Rattle.table_cases.proofs.say_alike.Tie as tie
-use Rattle.table_cases.proofs.say_alike.Reads as reads
-use Rattle.table_cases.proofs.say_alike.Lts as lts
-use Rattle.check.proofs.same.Reads as same-reads
-use Rattle.table_cases.proofs.say.Reads as say-reads
 
 returns : tie.Need-returns
 returns c = search needs

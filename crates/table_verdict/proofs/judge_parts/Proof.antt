@@ -1,20 +1,12 @@
 use borrow.Author.Needs.{needs}
 use native.Mathlib.Omega.{arith}
-use native.Mathlib.Numerals.{add-one}
-use mathlib.Core.Path.{_≡_, refl, sym, ap, _∙_}
-use mathlib.Core.Bool.{Bool, true, false}
-use mathlib.Core.List.{List, [], _∷_, _++_}
-use Prim.Native.Nat.{ℕ, _+_, _*_, _≤_, _<_, _-_}
-use lib.ListN.{length, take, drop, getD, set}
+use mathlib.Core.Path.{refl, sym, _∙_}
+use Prim.Native.Nat.{_-_}
 use Rattle.table.specs.Rows.{tableIn}
 use Rattle.table_verdict.proofs.SoundLaws.{sound-of, sound-starts}
 use Rattle.table_verdict.proofs.DecideLaws.{table-refused, table-short, table-decided}
 use Rattle.table_verdict.proofs.judge_parts.Statement.{statement}
 use Rattle.table_verdict.proofs.judge_parts.Tie as tie
-use Rattle.table_verdict.proofs.judge_parts.Reads as reads
-use Rattle.table_verdict.proofs.judge_parts.Lts as lts
-use Rattle.table.proofs.check_parts.Reads as check-parts-reads
-use Rattle.table_verdict.proofs.decide.decide.Reads as decide-reads
 
 check-parts-requires : tie.Need-check-parts-requires
 check-parts-requires c κs = search needs

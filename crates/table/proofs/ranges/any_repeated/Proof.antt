@@ -1,19 +1,12 @@
 use borrow.Author.Needs.{needs}
 use native.Mathlib.Omega.{arith}
-use native.Mathlib.Numerals.{add-one}
-use mathlib.Core.Path.{_≡_, refl, sym, ap, _∙_}
-use mathlib.Core.Bool.{Bool, true, false}
-use mathlib.Core.List.{List, [], _∷_, _++_}
-use Prim.Native.Nat.{ℕ, _+_, _*_, _≤_, _<_, _-_}
-use lib.ListN.{length, take, drop, getD, set}
+use mathlib.Core.Path.{_≡_, sym, _∙_}
+use mathlib.Core.Bool.{false}
+use Prim.Native.Nat.{_≤_, _-_}
 use Rattle.table.specs.Check.{repeats}
 use Rattle.table.proofs.RowLaws.{repeats-none, repeats-more, repeats-here}
 use Rattle.table.proofs.ranges.any_repeated.Statement.{statement}
 use Rattle.table.proofs.ranges.any_repeated.Tie as tie
-use Rattle.table.proofs.ranges.any_repeated.Reads as reads
-use Rattle.table.proofs.ranges.any_repeated.Lts as lts
-use Rattle.table.proofs.rows.has_row.Reads as has-row-reads
-use Rattle.table.proofs.rows.row_at.Reads as row-at-reads
 
 abbrev Inv-loop : tie.InvT-loop
 Inv-loop cells n i₀ i = (i ≤ n) × (repeats cells i ≡ false)

@@ -1,21 +1,11 @@
 use borrow.Author.Needs.{needs}
-use native.Mathlib.Omega.{arith}
-use native.Mathlib.Numerals.{add-one}
-use mathlib.Core.Path.{_≡_, refl, sym, ap, _∙_}
-use mathlib.Core.Bool.{Bool, true, false}
-use mathlib.Core.List.{List, [], _∷_, _++_}
-use Prim.Native.Nat.{ℕ, _+_, _*_, _≤_, _<_, _-_}
-use lib.ListN.{length, take, drop, getD, set}
+use mathlib.Core.Path.{refl, sym, _∙_}
+use Prim.Native.Nat.{_-_}
 use Rattle.table.proofs.FrameLaws.{admit-full, admit-range, admit-twin, admit-sound}
 use borrow.Author.Tests.{not-true, not-false}
 use Rattle.table.specs.Rows.{rows, said}
 use Rattle.table.proofs.reader.admit.Statement.{statement}
 use Rattle.table.proofs.reader.admit.Tie as tie
-use Rattle.table.proofs.reader.admit.Reads as reads
-use Rattle.table.proofs.reader.admit.Lts as lts
-use Rattle.table.proofs.ranges.in_range.Reads as in-range-reads
-use Rattle.table.proofs.rows.has_row.Reads as has-row-reads
-use Rattle.table.proofs.rows.put_row.Reads as put-row-reads
 
 returns : tie.Need-returns
 returns c =

@@ -1,22 +1,13 @@
 use borrow.Author.Needs.{needs}
 use native.Mathlib.Omega.{arith}
-use native.Mathlib.Numerals.{add-one}
-use mathlib.Core.Path.{_≡_, refl, sym, ap, _∙_}
-use mathlib.Core.Bool.{Bool, true, false}
-use mathlib.Core.List.{List, [], _∷_, _++_}
-use Prim.Native.Nat.{ℕ, _+_, _*_, _≤_, _<_, _-_}
-use lib.ListN.{length, take, drop, getD, set}
+use mathlib.Core.Path.{sym, _∙_}
+use Prim.Native.Nat.{_-_}
+use lib.ListN.{drop}
 use Rattle.table.proofs.ReadLaws.{Kept, kept-start, kept-bad, kept-last, kept-stop, kept-more}
 use lib.ListN.{length-drop}
 use Rattle.table.proofs.FrameLaws.{last-says, took-says}
-use Rattle.table.specs.Rows.{rows, said}
 use Rattle.table.proofs.reader.read_rows.Statement.{statement}
 use Rattle.table.proofs.reader.read_rows.Tie as tie
-use Rattle.table.proofs.reader.read_rows.Reads as reads
-use Rattle.table.proofs.reader.read_rows.Lts as lts
-use Rattle.table.proofs.reader.admit.Reads as admit-reads
-use Rattle.table.proofs.reader.finish.Reads as finish-reads
-use Rattle.table.proofs.reader.frame.Reads as frame-reads
 
 abbrev Inv-loop : tie.InvT-loop
 Inv-loop file states cells₀ at₀ n₀ cells at n = Kept file states cells n at

@@ -1,20 +1,10 @@
 use borrow.Author.Needs.{needs}
-use native.Mathlib.Omega.{arith}
-use native.Mathlib.Numerals.{add-one}
-use mathlib.Core.Path.{_≡_, refl, sym, ap, _∙_}
-use mathlib.Core.Bool.{Bool, true, false}
-use mathlib.Core.List.{List, [], _∷_, _++_}
-use Prim.Native.Nat.{ℕ, _+_, _*_, _≤_, _<_, _-_}
-use lib.ListN.{length, take, drop, getD, set}
+use Prim.Native.Nat.{_-_}
 use Rattle.table.specs.Rows.{rows}
-use Rattle.table_verdict.specs.Decided.{TurnJudged, turns-not, turns-from}
+use Rattle.table_verdict.specs.Decided.{turns-not, turns-from}
 use Rattle.table_verdict.proofs.DecideLaws.{show-room, not-zero}
 use Rattle.table_verdict.proofs.decide.judge_turning.Statement.{statement}
 use Rattle.table_verdict.proofs.decide.judge_turning.Tie as tie
-use Rattle.table_verdict.proofs.decide.judge_turning.Reads as reads
-use Rattle.table_verdict.proofs.decide.judge_turning.Lts as lts
-use Rattle.table_verdict.proofs.search.lowest.Reads as lowest-reads
-use Rattle.table_verdict.proofs.show.show_turn.Reads as show-turn-reads
 
 lowest-requires : tie.Need-lowest-requires
 lowest-requires c κs = search needs

@@ -1,16 +1,8 @@
 use borrow.Author.Needs.{needs}
-use native.Mathlib.Omega.{arith}
-use native.Mathlib.Numerals.{add-one}
-use mathlib.Core.Path.{_≡_, refl, sym, ap, _∙_}
-use mathlib.Core.Bool.{Bool, true, false}
-use mathlib.Core.List.{List, [], _∷_, _++_}
-use Prim.Native.Nat.{ℕ, _+_, _*_, _≤_, _<_, _-_}
-use lib.ListN.{length, take, drop, getD, set}
+use Prim.Native.Nat.{_-_}
 use borrow.Author.Tests.{lt-ltb, le-ltb}
 use Rattle.table_verdict.proofs.show.lesser.Statement.{statement}
 use Rattle.table_verdict.proofs.show.lesser.Tie as tie
-use Rattle.table_verdict.proofs.show.lesser.Reads as reads
-use Rattle.table_verdict.proofs.show.lesser.Lts as lts
 
 cast-result : tie.Need-cast-result
 cast-result c = search needs

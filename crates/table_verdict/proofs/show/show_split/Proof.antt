@@ -1,24 +1,15 @@
 use borrow.Author.Needs.{needs}
 use native.Mathlib.Omega.{arith}
-use native.Mathlib.Numerals.{add-one}
-use mathlib.Core.Path.{_≡_, refl, sym, ap, _∙_}
-use mathlib.Core.Bool.{Bool, true, false}
-use mathlib.Core.List.{List, [], _∷_, _++_}
-use Prim.Native.Nat.{ℕ, _+_, _*_, _≤_, _<_, _-_}
-use lib.ListN.{length, take, drop, getD, set}
+use mathlib.Core.Path.{ap, _∙_}
+use mathlib.Core.List.{List}
+use Prim.Native.Nat.{ℕ, _+_, _-_}
 use lib.ListN.{length-set, length-take}
-use Rattle.table_verdict.proofs.ShownLaws.{first-known, way-few, way-fits, way-number, way-stands, one-long, end-stands, front, split-stands, store-over}
+use Rattle.table_verdict.proofs.ShownLaws.{first-known, way-few, way-fits, way-number, way-stands, one-long, split-stands}
 use Rattle.table_verdict.proofs.ShownLaws.{split-traced, split-taken}
 use Rattle.words.specs.Shows.{wordLeft}
 use Rattle.table_verdict.specs.declared.OnTable.the-variants.{Split}
 use Rattle.table_verdict.proofs.show.show_split.Statement.{statement}
 use Rattle.table_verdict.proofs.show.show_split.Tie as tie
-use Rattle.table_verdict.proofs.show.show_split.Reads as reads
-use Rattle.table_verdict.proofs.show.show_split.Lts as lts
-use Rattle.table.proofs.row_of.Reads as row-of-reads
-use Rattle.table_verdict.proofs.reach.write_way.Reads as write-way-reads
-use Rattle.table_verdict.proofs.show.lesser.Reads as lesser-reads
-use Rattle.words.proofs.write_word.Reads as write-word-reads
 
 row-of-requires : tie.Need-row-of-requires
 row-of-requires c κs = search needs

@@ -1,12 +1,10 @@
 use borrow.Author.Needs.{needs}
 use native.Mathlib.Omega.{arith}
-use native.Mathlib.Numerals.{add-one}
-use mathlib.Core.Path.{_≡_, refl, sym, ap, _∙_}
-use mathlib.Core.Bool.{Bool, true, false}
-use mathlib.Core.List.{List, [], _∷_, _++_}
-use Prim.Native.Nat.{ℕ, _+_, _*_, _≤_, _<_, _-_}
-use lib.ListN.{length, take, drop, getD, set}
-use lib.ListN.{length-set, length-take, length-append, length-drop}
+use mathlib.Core.Path.{refl, sym, ap, _∙_}
+use mathlib.Core.List.{List}
+use Prim.Native.Nat.{ℕ, _+_, _-_}
+use lib.ListN.{length}
+use lib.ListN.{length-take}
 use Rattle.table_verdict.specs.declared.OnTable.the-variants.{Turning}
 use Rattle.words.specs.Shows.{wordsLeft}
 use Rattle.model.specs.Table.{at}
@@ -15,12 +13,6 @@ use Rattle.table_verdict.specs.Reach.{wayTo}
 use Rattle.table_verdict.proofs.ShownLaws.{first-known, way-few, way-fits, way-number, way-stands, one-long, shown-length, shown-few, turn-traced, turn-taken, turn-stamped, out-long}
 use Rattle.table_verdict.proofs.show.show_turn.Statement.{statement}
 use Rattle.table_verdict.proofs.show.show_turn.Tie as tie
-use Rattle.table_verdict.proofs.show.show_turn.Reads as reads
-use Rattle.table_verdict.proofs.show.show_turn.Lts as lts
-use Rattle.table.proofs.row_of.Reads as row-of-reads
-use Rattle.table_verdict.proofs.reach.write_way.Reads as write-way-reads
-use Rattle.table_verdict.proofs.walk.show.Reads as show-reads
-use Rattle.words.proofs.write_words.Reads as write-words-reads
 
 row-of-requires : tie.Need-row-of-requires
 row-of-requires c κs = search needs
