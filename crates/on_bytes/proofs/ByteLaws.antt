@@ -8,6 +8,7 @@ use lib.ListN.{length, take, drop, length-map, length-append, length-take}
 use lib.Seq.{take-append-le}
 use Rattle.model.specs.Table.{Transition}
 use Rattle.model.specs.Order.{Response}
+use Rattle.model.specs.Stamps.{gapsFrom}
 use Rattle.wire.specs.Bytes.{bytes, placed, wholes}
 use Rattle.table.specs.declared.Table.{Table}
 use Rattle.table.specs.declared.Refusal.{Refusal}
@@ -17,11 +18,11 @@ use Rattle.table.specs.Check.{checkOf}
 use Rattle.table.specs.Tests.{Test, Passes, Fails}
 use Rattle.replay.specs.declared.Replayed.{Replayed}
 use Rattle.replay.specs.declared.Replayed.the-variants.{Played, Refused}
-use Rattle.replay.specs.Play.{replayTests, RefusesReplay, Plays}
-use Rattle.replay.proofs.ReplayLaws.{otherTests, passed-handed, passed-stamped}
+use Rattle.replay.specs.Play.{ownTests, replayTests, Cause, RefusesReplay, Plays}
+use Rattle.replay.proofs.ReplayLaws.{passed-handed, passed-stamped}
 use Rattle.replay.proofs.OutcomeLaws.{plays-length}
-use Rattle.places.specs.Places.{fitted, handedOn, Decoded}
-use Rattle.on_bytes.specs.Replays.{bytesTests, Cause, PlaysBytes, ReplayOnMachine}
+use Rattle.places.specs.Places.{fitted, handedOn, Decoded, pathIn}
+use Rattle.on_bytes.specs.Replays.{bytesTests, PlaysBytes, ReplayOnMachine}
 use Rattle.on_bytes.specs.ValueCall.{wroteBack, Called}
 use Rattle.places.proofs.PlaceLaws.{decoded-take, handed-whole, handed-count, count-handed, trace-whole, whole-trace, trace-count, back}
 use Rattle.places.proofs.AgreeLaws.{Agree, agree-passes, agree-fails, after-passes, after-fails}
@@ -84,7 +85,7 @@ module _ (t : Table) (sound : checkOf t ≡ Sound) (trace : List ℕ) (start : �
   ts = rows (t .cells) (t .count)
 
   -- the call on values tests what the bytes are to be tested for
-  agree : Agree (otherTests t steps marks o₀ d₀) tests
+  agree : Agree (ownTests t steps marks o₀ d₀) tests
   agree = (
     refl,
     trace-whole ts trace,
@@ -102,10 +103,10 @@ module _ (t : Table) (sound : checkOf t ≡ Sound) (trace : List ℕ) (start : �
   )
 
   passes : Passes (replayTests t steps marks o₀ d₀) → Passes tests
-  passes p = agree-passes (otherTests t steps marks o₀ d₀) tests agree (after-passes t sound (otherTests t steps marks o₀ d₀) p)
+  passes p = agree-passes (ownTests t steps marks o₀ d₀) tests agree (after-passes t sound (ownTests t steps marks o₀ d₀) p)
 
   fails : (r : Refusal) → Fails (replayTests t steps marks o₀ d₀) r → Fails tests r
-  fails r f = agree-fails (otherTests t steps marks o₀ d₀) tests r agree (after-fails t sound (otherTests t steps marks o₀ d₀) r f)
+  fails r f = agree-fails (ownTests t steps marks o₀ d₀) tests r agree (after-fails t sound (ownTests t steps marks o₀ d₀) r f)
 
   -- once they are passed, both lists are whole
   module _ (p : Passes (replayTests t steps marks o₀ d₀)) where
@@ -118,7 +119,7 @@ module _ (t : Table) (sound : checkOf t ≡ Sound) (trace : List ℕ) (start : �
     marks-whole : marks ≡ wholes 4 stamps
     marks-whole = handed-whole 4 stamps (omega (arith, passed-handed t steps marks o₀ d₀ p .some, passed-stamped t steps marks o₀ d₀ p)) .is
 
-  cause : (r : Refusal) {o d : List ℕ} → RefusesReplay t steps start marks o₀ d₀ r o d → Cause (machineOf t) trace start stamps order₀ due₀ r
+  cause : (r : Refusal) {o d : List ℕ} → RefusesReplay t steps start marks o₀ d₀ r o d → Cause tests (pathIn (machineOf t) trace) (gapsFrom start (wholes 4 stamps)) r
   cause r x =
       ⊎-elim
       (λ f. inl (fails r f))

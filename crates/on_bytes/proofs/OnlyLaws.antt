@@ -7,6 +7,7 @@ use native.Mathlib.Decide.{decLt}
 use native.Mathlib.Omega.{arith}
 use lib.ListN.{length}
 use Rattle.model.specs.Table.{Machine}
+use Rattle.model.specs.Stamps.{gapsFrom}
 use Rattle.model.proofs.Paths.{length-steps}
 use Rattle.model.proofs.Conversion.{conversion-only}
 use Rattle.wire.specs.Bytes.{wholes}
@@ -16,8 +17,9 @@ use Rattle.table.specs.File.{readFile}
 use Rattle.table.specs.Tests.{Test}
 use Rattle.replay.specs.declared.Replayed.{Replayed}
 use Rattle.replay.specs.declared.Replayed.the-variants.{Played, Refused}
+use Rattle.replay.specs.Play.{Cause}
 use Rattle.replay.proofs.OutcomeLaws.{cause-only, no-cause}
-use Rattle.on_bytes.specs.Replays.{bytesTests, wordIn, Cause, PlaysBytes, ReplayOnMachine, ReplayBytesOutcome}
+use Rattle.on_bytes.specs.Replays.{bytesTests, wordIn, PlaysBytes, ReplayOnMachine, ReplayBytesOutcome}
 use Rattle.on_bytes.specs.Rewrites.{RewriteBytesOutcome}
 use Rattle.places.specs.Places.{pathIn}
 use Rattle.places.proofs.PlaceLaws.{length-wholes}
@@ -38,7 +40,7 @@ module _ (trace : List ℕ) (start : ℕ) (stamps order₀ due₀ : List ℕ) wh
     abbrev tests : List Test
     tests = bytesTests m trace stamps order₀ due₀
 
-    not-both : (r : Refusal) {o d : List ℕ} → Cause m trace start stamps order₀ due₀ r → PlaysBytes m trace start stamps order₀ due₀ o d → ⊥
+    not-both : (r : Refusal) {o d : List ℕ} → Cause tests (pathIn m trace) (gapsFrom start (wholes 4 stamps)) r → PlaysBytes m trace start stamps order₀ due₀ o d → ⊥
     not-both r c p =
         let e : length (wholes 4 stamps) ≡ length (pathIn m trace) =
         length-wholes 4 stamps ∙ p .tested .1 .0 .1 ∙ sym (length-steps (m .transitions) (wholes 2 trace) ∙ length-wholes 2 trace) in

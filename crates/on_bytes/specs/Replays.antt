@@ -1,6 +1,5 @@
 -- What replay on bytes answers, and what it leaves in the lent memory.
 use mathlib.Core.Path.{_≡_}
-use mathlib.Core.Logic.{_⊎_}
 use mathlib.Core.List.{List, [], _∷_, _++_, map}
 use Prim.Native.Nat.{ℕ, _*_, _%_, _/_, _≤_}
 use lib.ListN.{length, drop}
@@ -10,12 +9,12 @@ use Rattle.model.specs.Order.{Response, Conversion}
 use Rattle.model.specs.Stamps.{gapsFrom, wordFrom}
 use Rattle.wire.specs.Bytes.{bytes, wholes}
 use Rattle.table.specs.declared.Refusal.{Refusal}
-use Rattle.table.specs.declared.Refusal.the-variants.{Uneven, NoRoom, Outside}
-use Rattle.table.specs.Tests.{Test, unless, Passes, Fails}
+use Rattle.table.specs.declared.Refusal.the-variants.{Uneven, NoRoom}
+use Rattle.table.specs.Tests.{Test, unless, Passes}
 use Rattle.table.specs.File.{readFile}
 use Rattle.replay.specs.declared.Replayed.{Replayed}
 use Rattle.replay.specs.declared.Replayed.the-variants.{Played, Refused}
-use Rattle.replay.specs.Play.{FirstOutside}
+use Rattle.replay.specs.Play.{Cause}
 use Rattle.places.specs.OnFile.{onFile}
 use Rattle.places.specs.Places.{pathIn, traceTest}
 
@@ -30,15 +29,9 @@ bytesTests m trace stamps order₀ due₀ =
 abbrev pub wordIn : Machine → List ℕ → ℕ → List ℕ → Word
 wordIn m trace start stamps = wordFrom (pathIn m trace) start (wholes 4 stamps)
 
--- a test failed, or all passed and a gap is outside
-abbrev pub Cause : Machine → List ℕ → ℕ → List ℕ → List ℕ → List ℕ → Refusal → Type 0
-Cause m trace start stamps order₀ due₀ r =
-    Fails (bytesTests m trace stamps order₀ due₀) r
-    ⊎ (Passes (bytesTests m trace stamps order₀ due₀) × ((s : ℕ) × FirstOutside (pathIn m trace) (gapsFrom start (wholes 4 stamps)) s × (r ≡ Outside s)))
-
 -- "A refusal .. writes nothing"
 pub record RefusesBytes (m : Machine) (trace : List ℕ) (start : ℕ) (stamps order₀ due₀ : List ℕ) (r : Refusal) (order due : List ℕ) : Type 0 where
-  pub why : Cause m trace start stamps order₀ due₀ r
+  pub why : Cause (bytesTests m trace stamps order₀ due₀) (pathIn m trace) (gapsFrom start (wholes 4 stamps)) r
   pub order-kept : order ≡ order₀
   pub due-kept : due ≡ due₀
 

@@ -23,8 +23,8 @@ fn call(
     requires { ⌜ (length (now ranked) ≡ 512) × (length (now times) ≡ 512) ⌝ }
     ensures { λ r. ⌜ Called t (now (trace .entry)) start (now (stamps .entry)) (now (order .entry)) (now (due .entry)) r (now (order .exit)) (now (due .exit)) ⌝ }
 {
-    let room = places::lesser(order.len() / 2, 512);
-    let late = places::lesser(due.len() / 4, 512);
+    let room = wire::lesser(order.len() / 2, 512);
+    let late = wire::lesser(due.len() / 4, 512);
     let r = replay::replay(
         t,
         trace,

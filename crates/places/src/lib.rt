@@ -1,16 +1,8 @@
 // Lists in bytes: what a call on values is handed, and what it gives back. Every function is total.
 ghost use mathlib.Core.Path.{_≡_};
-ghost use Prim.Native.Nat.{_≤_, min};
-ghost use lib.ListN.{length, take};
+ghost use lib.ListN.{take};
 ghost use Rattle.wire.specs.Bytes.{bytes, placed};
 ghost use Rattle.places.specs.Places.{Decoded};
-
-// The lesser of two counts.
-pub fn lesser(a: usize, b: usize) -> usize
-    ensures { λ r. ⌜ r ≡ min a b ⌝ }
-{
-    if a < b { a } else { b }
-}
 
 // The numbers of two bytes that a call is handed, and how many they are.
 pub fn twos_in(b: &[u8], out: &mut [u16]) -> usize
@@ -44,7 +36,7 @@ pub fn fours_in(b: &[u8], out: &mut [u32]) -> usize
 pub fn put_back_twos(out: &mut [u8], vals: &[u16], n: usize)
     ensures { λ _. ⌜ now (out .exit) ≡ placed (now (out .entry)) 0 (bytes 2 (take n (now (vals .entry)))) ⌝ }
 {
-    let k = lesser(n, vals.len());
+    let k = wire::lesser(n, vals.len());
     wire::put_twos(out, 0, &vals[..k]);
 }
 
@@ -52,6 +44,6 @@ pub fn put_back_twos(out: &mut [u8], vals: &[u16], n: usize)
 pub fn put_back_fours(out: &mut [u8], vals: &[u32], n: usize)
     ensures { λ _. ⌜ now (out .exit) ≡ placed (now (out .entry)) 0 (bytes 4 (take n (now (vals .entry)))) ⌝ }
 {
-    let k = lesser(n, vals.len());
+    let k = wire::lesser(n, vals.len());
     wire::put_fours(out, 0, &vals[..k]);
 }

@@ -1,6 +1,6 @@
 -- Two outcomes that replay's contract allows are equal, and how late a response can be due.
 use mathlib.Core.Path.{_≡_, refl, sym, ap, _∙_}
-use mathlib.Core.Logic.{_⊎_, inl, inr}
+use mathlib.Core.Logic.{inl, inr}
 use mathlib.Core.List.{List, _++_, map}
 use Prim.Native.Nat.{ℕ, _≤_, _<_}
 use native.Mathlib.Omega.{arith}
@@ -15,13 +15,13 @@ use Rattle.model.proofs.Limits.{due-512}
 use Rattle.table.specs.declared.Table.{Table}
 use Rattle.table.specs.declared.Refusal.{Refusal}
 use Rattle.table.specs.declared.Refusal.the-variants.{Outside}
-use Rattle.table.specs.Tests.{Test, Passes, Fails}
+use Rattle.table.specs.Tests.{Test, Passes}
 use Rattle.table.proofs.TestLaws.{passes-fails, fails-only}
 use Rattle.trace.specs.Named.{stepsIn}
 use Rattle.trace.proofs.TraceLaws.{length-steps-in}
 use Rattle.replay.specs.declared.Replayed.{Replayed}
 use Rattle.replay.specs.declared.Replayed.the-variants.{Played, Refused}
-use Rattle.replay.specs.Play.{replayTests, FirstOutside, RefusesReplay, Plays, ReplayOutcome}
+use Rattle.replay.specs.Play.{replayTests, Cause, RefusesReplay, Plays, ReplayOutcome}
 use Rattle.replay.proofs.WordLaws.{activates-fits, parts-of}
 use Rattle.replay.proofs.GapLaws.{outside-only, outside-fits}
 use Rattle.replay.proofs.LaidLaws.{conversion-length}
@@ -29,16 +29,16 @@ use Rattle.replay.proofs.ReplayLaws.{passed-handed, passed-stamped, pas
 
 -- a test failed, or all passed and a gap is outside: at most one refusal has such a cause, and none where the word activates
 module _ (tests : List Test) (tr : List Transition) (start : ℕ) (stamps : List ℕ) where
-  abbrev pub Cause : Refusal → Type 0
-  Cause r = Fails tests r ⊎ (Passes tests × ((s : ℕ) × FirstOutside tr (gapsFrom start stamps) s × (r ≡ Outside s)))
+  abbrev pub Why : Refusal → Type 0
+  Why = Cause tests tr (gapsFrom start stamps)
 
-  pub cause-only : (r s : Refusal) → Cause r → Cause s → r ≡ s
+  pub cause-only : (r s : Refusal) → Why r → Why s → r ≡ s
   cause-only r s (inl f) (inl g) = fails-only tests r s f g
   cause-only r s (inl f) (inr g) = absurd (passes-fails tests r (g .0) f)
   cause-only r s (inr f) (inl g) = absurd (passes-fails tests s (f .0) g)
   cause-only r s (inr f) (inr g) = f .1 .2 ∙ ap Outside (outside-only (f .1 .1) (g .1 .1)) ∙ sym (g .1 .2)
 
-  pub no-cause : (r : Refusal) → Passes tests → length stamps ≡ length tr → Activates tr (wordFrom tr start stamps) → Cause r → ⊥
+  pub no-cause : (r : Refusal) → Passes tests → length stamps ≡ length tr → Activates tr (wordFrom tr start stamps) → Why r → ⊥
   no-cause r p e a (inl f) = passes-fails tests r p f
   no-cause r p e a (inr g) = outside-fits (g .1 .1) (activates-fits tr start stamps e a)
 

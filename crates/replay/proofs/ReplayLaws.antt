@@ -1,7 +1,7 @@
 -- The tests of replay in their order, each with what it answers.
 use mathlib.Core.Path.{_≡_, refl, sym, _∙_}
 use mathlib.Core.Logic.{inl, inr}
-use mathlib.Core.List.{List, [], _∷_}
+use mathlib.Core.List.{List}
 use Prim.Native.Nat.{ℕ, _≤_}
 use lib.ListN.{length}
 use Rattle.model.specs.Lists.{All}
@@ -15,27 +15,21 @@ use Rattle.table.specs.declared.Refusal.the-variants.{NoTrace, Uneven, NoRoom, 
 use Rattle.table.specs.declared.Checked.the-variants as checked
 use Rattle.table.specs.Rows.{rows, named}
 use Rattle.table.specs.Check.{checkOf}
-use Rattle.table.specs.Tests.{Test, unless, Passes, Fails}
+use Rattle.table.specs.Tests.{Test, Passes, Fails}
 use Rattle.table.proofs.TestLaws.{sound-valid, sound-passes, sound-fails, refused-fails, passes-sound}
 use Rattle.table.proofs.NamedLaws.{length-named}
 use Rattle.trace.specs.Named.{stepsIn, TraceIn}
 use Rattle.trace.proofs.TraceLaws.{length-steps-in, named-in, handed-ranged}
-use Rattle.replay.specs.Play.{replayTests, RefusesReplay, Plays}
+use Rattle.replay.specs.Play.{ownTests, replayTests, RefusesReplay, Plays}
 use Rattle.replay.specs.Tried.{Tried}
 use Rattle.replay.specs.Laid.{Laid, LaidOut, Playable}
 use Rattle.replay.proofs.WordLaws.{fits-activates}
 use Rattle.replay.proofs.LaidLaws.{laid, laid-converts, laid-orders, laid-dues}
 
--- the tests after the table's
-abbrev pub otherTests : Table → List ℕ → List ℕ → List ℕ → List ℕ → List Test
-otherTests t trace stamps o₀ d₀ =
-    unless NoTrace (Handed (rows (t .cells) (t .count)) trace) ∷ unless Uneven (length stamps ≡ length trace)
-    ∷ unless NoRoom ((length trace ≤ length o₀) × (length trace ≤ length d₀)) ∷ []
-
 -- each way out of the tests
 module _ (t : Table) (trace stamps o₀ d₀ : List ℕ) where
   abbrev others : List Test
-  others = otherTests t trace stamps o₀ d₀
+  others = ownTests t trace stamps o₀ d₀
 
   pub fails-table : {r : Refusal} → checkOf t ≡ checked.Refused r → Fails (replayTests t trace stamps o₀ d₀) r
   fails-table {r} e = refused-fails t others r e
@@ -64,7 +58,7 @@ module _ (t : Table) (trace stamps o₀ d₀ : List ℕ) (p : Passes (replayTest
   passed-stamped = p .1 .1 .1 .1 .0
 
   pub passed-ranged : All (InRange (t .states)) (stepsIn t trace)
-  passed-ranged = handed-ranged t trace passed-handed (passes-sound t (otherTests t trace stamps o₀ d₀) p)
+  passed-ranged = handed-ranged t trace passed-handed (passes-sound t (ownTests t trace stamps o₀ d₀) p)
 
   same : named (t .cells) trace ≡ stepsIn t trace
   same = named-in t trace passed-handed (p .0)

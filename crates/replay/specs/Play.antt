@@ -19,12 +19,14 @@ use Rattle.replay.specs.declared.Replayed.{Replayed}
 use Rattle.replay.specs.declared.Replayed.the-variants.{Played, Refused}
 
 -- "number of stamps differs from number of steps"; "replay needs one place per step in each of two buffers"
-abbrev pub replayTests : Table → List ℕ → List ℕ → List ℕ → List ℕ → List Test
-replayTests t trace stamps order₀ due₀ =
-    afterTable t
-    (unless NoTrace (Handed (rows (t .cells) (t .count)) trace) ∷
+abbrev pub ownTests : Table → List ℕ → List ℕ → List ℕ → List ℕ → List Test
+ownTests t trace stamps order₀ due₀ =
+    unless NoTrace (Handed (rows (t .cells) (t .count)) trace) ∷
     unless Uneven (length stamps ≡ length trace) ∷
-    unless NoRoom ((length trace ≤ length order₀) × (length trace ≤ length due₀)) ∷ [])
+    unless NoRoom ((length trace ≤ length order₀) × (length trace ≤ length due₀)) ∷ []
+
+abbrev pub replayTests : Table → List ℕ → List ℕ → List ℕ → List ℕ → List Test
+replayTests t trace stamps order₀ due₀ = afterTable t (ownTests t trace stamps order₀ due₀)
 
 -- "9 names the first such step": step s, counted from 1, is the first whose gap is outside its guard
 pub record FirstOutside (tr : List Transition) (gaps : List ℕ) (s : ℕ) : Type 0 where
@@ -34,10 +36,13 @@ pub record FirstOutside (tr : List Transition) (gaps : List ℕ) (s : ℕ) : Typ
   pub before : (j : ℕ) → j < i → Fits 256 (at tr j) (getD gaps j 0)
   pub outside : Fits 256 (at tr i) (getD gaps i 0) → ⊥
 
--- "A refusal .. writes nothing": a test failed, or all passed and a gap is outside
+-- why a word is refused: a test failed, or all passed and a gap is outside
+abbrev pub Cause : List Test → List Transition → List ℕ → Refusal → Type 0
+Cause tests tr gaps r = Fails tests r ⊎ (Passes tests × ((s : ℕ) × FirstOutside tr gaps s × (r ≡ Outside s)))
+
+-- "A refusal .. writes nothing"
 pub record RefusesReplay (t : Table) (trace : List ℕ) (start : ℕ) (stamps order₀ due₀ : List ℕ) (r : Refusal) (order due : List ℕ) : Type 0 where
-  pub why : Fails (replayTests t trace stamps order₀ due₀) r
-      ⊎ (Passes (replayTests t trace stamps order₀ due₀) × ((s : ℕ) × FirstOutside (stepsIn t trace) (gapsFrom start stamps) s × (r ≡ Outside s)))
+  pub why : Cause (replayTests t trace stamps order₀ due₀) (stepsIn t trace) (gapsFrom start stamps) r
   pub order-kept : order ≡ order₀
   pub due-kept : due ≡ due₀
 

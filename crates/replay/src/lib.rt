@@ -2,7 +2,6 @@
 use table::Checked;
 use table::Refusal;
 use table::Table;
-ghost use mathlib.Core.Path.{_≡_};
 ghost use Rattle.replay.specs.Play.{replayTests, ReplayOutcome};
 ghost use Rattle.replay.specs.Tested.{Answers};
 

@@ -7,6 +7,7 @@ use native.Mathlib.Decide.{decLt}
 use native.Mathlib.Omega.{arith}
 use lib.ListN.{length, take, length-take}
 use Rattle.model.specs.Table.{Machine, Valid}
+use Rattle.model.specs.Stamps.{gapsFrom}
 use Rattle.model.proofs.Paths.{length-steps}
 use Rattle.wire.specs.Bytes.{Bytes, wholes}
 use Rattle.table.specs.declared.Refusal.{Refusal}
@@ -19,6 +20,7 @@ use Rattle.table.proofs.FileLaws.{places, near, sound}
 use Rattle.table.proofs.WriteLaws.{length-file}
 use Rattle.replay.specs.declared.Replayed.{Replayed}
 use Rattle.replay.specs.declared.Replayed.the-variants.{Played, Refused as Unplayed}
+use Rattle.replay.specs.Play.{Cause}
 use Rattle.verdict.specs.declared.OnTrace.{OnTrace}
 use Rattle.verdict.specs.declared.OnTrace.the-variants.{Steady, Turning as TurningTrace, Refused as Unjudged}
 use Rattle.table_verdict.specs.declared.OnTable.{OnTable}
@@ -26,7 +28,7 @@ use Rattle.table_verdict.specs.declared.OnTable.the-variants.{Strict, Split, Tu
 use Rattle.places.specs.Places.{pathIn, traceTest}
 use Rattle.places.proofs.PlaceLaws.{length-wholes}
 use Rattle.places.proofs.ReadingLaws.{of-file}
-use Rattle.on_bytes.specs.Replays.{bytesTests as replayTests, Cause, ReplayOnMachine, ReplayBytesOutcome}
+use Rattle.on_bytes.specs.Replays.{bytesTests as replayTests, ReplayOnMachine, ReplayBytesOutcome}
 use Rattle.on_bytes.specs.Rewrites.{RewriteBytesOutcome}
 use Rattle.verdict_bytes.specs.Traces.{bytesTests as traceTests, TraceOnMachine, JudgeTraceBytesOutcome}
 use Rattle.verdict_bytes.specs.Tables.{roomTests, TableOnMachine, JudgeTableBytesOutcome}
@@ -76,7 +78,7 @@ module _ (m : Machine) (trace : List ℕ) (h : traceTest m trace .holds) where
   path-few = omega (arith, h .1 .most, length-steps (m .transitions) (wholes 2 trace))
 
 module _ (file trace : List ℕ) (start : ℕ) (stamps order₀ due₀ : List ℕ) where
-  cause-fits : (m : Machine) (r : Refusal) → Cause m trace start stamps order₀ due₀ r → RefusalFits r
+  cause-fits : (m : Machine) (r : Refusal) → Cause (replayTests m trace stamps order₀ due₀) (pathIn m trace) (gapsFrom start (wholes 4 stamps)) r → RefusalFits r
   cause-fits m r (inl f) = fails-fit (replayTests m trace stamps order₀ due₀) r (omega arith, (omega arith, (omega arith, tt))) f
   cause-fits m r (inr g) =
       outside-fits r (g .1 .0) (omega (arith, g .1 .1 .step, g .1 .1 .inside, path-few m trace (g .0 .0))) (g .1 .2)

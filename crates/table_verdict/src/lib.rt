@@ -3,7 +3,6 @@ use table::Cells;
 use table::Checked;
 use table::Refusal;
 use table::Table;
-ghost use mathlib.Core.Path.{_≡_};
 ghost use Rattle.table.specs.Rows.{tableIn};
 ghost use Rattle.table_verdict.specs.OnTable.{TableOutcome};
 

@@ -2,7 +2,6 @@
 use crate::search::row;
 use table::Cells;
 use table::Row;
-ghost use mathlib.Core.Path.{_≡_};
 ghost use Prim.Native.Nat.{_<_};
 ghost use Rattle.model.specs.Answers.{Tells};
 ghost use Rattle.table.specs.Rows.{rows, said};

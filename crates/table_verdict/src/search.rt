@@ -2,13 +2,13 @@
 use table::Cells;
 use table::Row;
 ghost use mathlib.Core.Path.{_≡_};
-ghost use Prim.Native.Nat.{ℕ, _+_, _*_, _-_, _<_, _≤_};
+ghost use Prim.Native.Nat.{_+_, _*_, _-_, _<_, _≤_};
 ghost use lib.ListN.{length};
 ghost use Rattle.model.specs.Answers.{Tells};
 ghost use Rattle.table.specs.Rows.{rows, said};
 ghost use Rattle.table_verdict.specs.Sound.{Sound};
 ghost use Rattle.table_verdict.specs.Walks.{Seen, TurnsTo, Arrives, StartsAt, Starts, Least, LeastBelow};
-ghost use Rattle.table_verdict.specs.Best.{cell, Filled, Sized, Making, Copied, First, rowBefore, Closes, ReadyFor, ReadyAt, LowDelay, TopDelay};
+ghost use Rattle.table_verdict.specs.Best.{cell, Filled, Making, Copied, First, rowBefore, Closes, ReadyFor, ReadyAt, LowDelay, TopDelay};
 
 // A number that was looked for.
 pub(crate) enum Found {

@@ -6,7 +6,7 @@ use table::Cells;
 use table::Row;
 use table::row_of;
 ghost use mathlib.Core.Path.{_≡_};
-ghost use Prim.Native.Nat.{_<_, min};
+ghost use Prim.Native.Nat.{_<_};
 ghost use Rattle.table.specs.Rows.{rows};
 ghost use lib.ListN.{length};
 ghost use Rattle.table_verdict.specs.Sound.{Sound};

@@ -8,7 +8,7 @@ use crate::search::row;
 use crate::search::row_before;
 use table::Cells;
 ghost use mathlib.Core.Path.{_≡_};
-ghost use Prim.Native.Nat.{ℕ, _+_, _*_, _-_, _<_, _≤_};
+ghost use Prim.Native.Nat.{_+_, _-_, _<_, _≤_};
 ghost use lib.ListN.{length};
 ghost use Rattle.model.specs.Answers.{Tells};
 ghost use Rattle.table.specs.Rows.{rows};

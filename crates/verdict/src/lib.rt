@@ -3,7 +3,6 @@ use crate::pairs::Pair;
 use table::Checked;
 use table::Refusal;
 use table::Table;
-ghost use mathlib.Core.Path.{_≡_};
 ghost use Rattle.verdict.specs.OnTrace.{TraceOutcome};
 
 mod pairs;

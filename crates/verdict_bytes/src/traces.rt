@@ -14,7 +14,7 @@ fn call(t: Table, trace: &[u16], stamps: &mut [u8], marks: &mut [u32]) -> OnTrac
     requires { ⌜ length (now marks) ≡ 1024 ⌝ }
     ensures { λ r. ⌜ TraceCalled t (now (trace .entry)) (now (stamps .entry)) r (now (stamps .exit)) ⌝ }
 {
-    let room = places::lesser(stamps.len() / 4, 1024);
+    let room = wire::lesser(stamps.len() / 4, 1024);
     let r = verdict::judge_trace(t, trace, &mut marks[..room]);
     match r {
         OnTrace::Steady => OnTrace::Steady,
