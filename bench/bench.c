@@ -368,7 +368,7 @@ static int write_files(const char *directory)
 {
     for (unsigned i = 0; i < work_count; i++) {
         char path[4096];
-        snprintf(path, sizeof path, "%s/%02u.table", directory, i);
+        snprintf(path, sizeof path, "%s/%02u.bin", directory, i);
         FILE *f = fopen(path, "wb");
         if (f == NULL || fwrite(works[i].file, 1, works[i].file_len, f) != works[i].file_len || fclose(f) != 0)
             return 1;

@@ -18,56 +18,13 @@
 
 #include "sandgusset.h"
 
-/* The room that a verdict on a table needs, always: 270 trace places of two
-   bytes and 540 stamp places of four. A shown trace has at most 270 steps, so
-   270 places are enough for each buffer of a replay too.
+/* A shown trace has at most as many steps as a verdict on a table needs trace
+   places, so that many places are enough for each buffer of a replay too.
    The longest table file has 4,620 bytes. We read some more, so that a file with
    a tail is refused by the library, with a number and a place. */
-enum {
-    HOST_STEPS = 270,
-    HOST_TRACE_BYTES = 2 * HOST_STEPS,
-    HOST_STAMP_BYTES = 4 * 2 * HOST_STEPS,
-    HOST_FILE_BYTES = 8192
-};
+enum { HOST_STEPS = SANDGUSSET_TRACE_PLACES, HOST_FILE_BYTES = 8192 };
 
 enum { HOST_JUDGED = 0, HOST_REFUSED = 1, HOST_FAILED = 2 };
-
-/* What the status of an answer can be; 1 to 255 are numbers of refusal. */
-enum { HOST_IS_STRICT = 0, HOST_LAST_REFUSAL = 255, HOST_IS_SPLIT = 256, HOST_IS_TURNING = 257 };
-
-/* ---- Answers and places ---- */
-
-/* An answer comes as one number of 64 bits: four fields of 16, lowest first. */
-struct host_answer {
-    unsigned status;
-    unsigned first;
-    unsigned second;
-    unsigned steps;
-};
-
-static struct host_answer host_answer_of(uint64_t packed)
-{
-    struct host_answer answer;
-
-    answer.status = (unsigned)(packed & 0xffff);
-    answer.first = (unsigned)(packed >> 16 & 0xffff);
-    answer.second = (unsigned)(packed >> 32 & 0xffff);
-    answer.steps = (unsigned)(packed >> 48 & 0xffff);
-    return answer;
-}
-
-/* Buffers are bytes, little-endian whatever the machine is: place I of two
-   bytes (transition and step numbers) and of four (stamps and due times). */
-static unsigned host_number(const uint8_t *bytes, size_t i)
-{
-    return (unsigned)bytes[2 * i] | (unsigned)bytes[2 * i + 1] << 8;
-}
-
-static uint32_t host_time(const uint8_t *bytes, size_t i)
-{
-    return (uint32_t)bytes[4 * i] | (uint32_t)bytes[4 * i + 1] << 8 |
-           (uint32_t)bytes[4 * i + 2] << 16 | (uint32_t)bytes[4 * i + 3] << 24;
-}
 
 /* Times are counts of 1/256 tick. Three decimals keep any two of them apart. */
 static double host_ticks(uint32_t parts)
@@ -80,7 +37,7 @@ static double host_ticks(uint32_t parts)
    which the first four are length and kind and the third number the output. */
 static unsigned host_output(const uint8_t *file, unsigned transition)
 {
-    return host_number(file + 8 + 18 * (size_t)transition + 4, 2);
+    return sandgusset_get16(file + 8 + 18 * (size_t)transition + 4, 2);
 }
 
 /* ---- Refusals ---- */
@@ -102,29 +59,32 @@ static const char *host_meaning(unsigned refusal)
 }
 
 /* The place is a byte of the file for 1 to 5, a step for 9, and else 0. */
-static void host_print_refusal(FILE *to, struct host_answer answer)
+static void host_print_refusal(FILE *to, uint64_t answer)
 {
-    fprintf(to, "refused %u at %u: %s\n", answer.status, answer.first, host_meaning(answer.status));
+    unsigned number = sandgusset_status(answer);
+
+    fprintf(to, "refused %u at %u: %s\n", number, sandgusset_first(answer), host_meaning(number));
 }
 
 /* ---- Split ---- */
 
 /* Two traces, alike but for their last step, that one word activates: the first
    stands in the trace places, the last step of the second is the answer's J. */
-static void host_print_split(struct host_answer answer, const uint8_t *trace, const uint8_t *stamps)
+static void host_print_split(uint64_t answer, const uint8_t *trace, const uint8_t *stamps)
 {
+    unsigned steps = sandgusset_steps(answer);
     unsigned j;
 
     printf("split: transitions %u and %u are open to one input at one time\n\n",
-           answer.first, answer.second);
+           sandgusset_first(answer), sandgusset_second(answer));
     printf("Two traces and the word of both, stamps in ticks\n");
     printf("    step  first trace  second trace       stamp\n");
-    for (j = 0; j < answer.steps; j++) {
-        unsigned first = host_number(trace, j);
-        unsigned second = j + 1 == answer.steps ? answer.second : first;
+    for (j = 0; j < steps; j++) {
+        unsigned first = sandgusset_get16(trace, j);
+        unsigned second = j + 1 == steps ? sandgusset_second(answer) : first;
 
         printf("  %c %4u %12u %13u %11.3f\n", first == second ? ' ' : '*', j + 1, first, second,
-               host_ticks(host_time(stamps, j)));
+               host_ticks(sandgusset_get32(stamps, j)));
     }
 }
 
@@ -142,11 +102,10 @@ struct host_played {
 static int host_play(struct host_played *played, const uint8_t *file, size_t file_bytes,
                      const uint8_t *trace, const uint8_t *stamps, unsigned steps)
 {
-    struct host_answer answer = host_answer_of(
-        sandgusset_replay(file, file_bytes, trace, 2 * (size_t)steps, 0, stamps, 4 * (size_t)steps,
-                          played->order, sizeof played->order, played->due, sizeof played->due));
+    uint64_t answer = sandgusset_replay(file, file_bytes, trace, 2 * (size_t)steps, 0, stamps, 4 * (size_t)steps,
+                                        played->order, sizeof played->order, played->due, sizeof played->due);
 
-    if (answer.status == 0)
+    if (sandgusset_status(answer) == SANDGUSSET_REPLAYED)
         return 1;
     fprintf(stderr, "host: the replay of a shown word was refused\n");
     host_print_refusal(stderr, answer);
@@ -159,7 +118,7 @@ static int host_before(const struct host_played *played, unsigned steps, unsigne
     unsigned i;
 
     for (i = 0; i < steps; i++) {
-        unsigned step = host_number(played->order, i);
+        unsigned step = sandgusset_get16(played->order, i);
 
         if (step == a || step == b)
             return step == a;
@@ -167,55 +126,55 @@ static int host_before(const struct host_played *played, unsigned steps, unsigne
     return 0;
 }
 
-static char host_mark(struct host_answer answer, unsigned step)
+static char host_mark(uint64_t answer, unsigned step)
 {
-    return step == answer.first ? 'K' : step == answer.second ? 'M' : ' ';
+    return step == sandgusset_first(answer) ? 'K' : step == sandgusset_second(answer) ? 'M' : ' ';
 }
 
-static void host_print_response(const struct host_played *played, unsigned i, struct host_answer answer,
+static void host_print_response(const struct host_played *played, unsigned i, uint64_t answer,
                                 const uint8_t *file, const uint8_t *trace)
 {
-    unsigned step = host_number(played->order, i);
-    unsigned output = host_output(file, host_number(trace, step - 1));
+    unsigned step = sandgusset_get16(played->order, i);
+    unsigned output = host_output(file, sandgusset_get16(trace, step - 1));
 
     printf("  %c %4u %7u %11.3f", host_mark(answer, step), step, output,
-           host_ticks(host_time(played->due, i)));
+           host_ticks(sandgusset_get32(played->due, i)));
 }
 
 /* The late word comes first in the stamp places, the early word right after it:
    it begins at place STEPS, wherever that is. */
-static int host_print_turning(struct host_answer answer, const uint8_t *file, size_t file_bytes,
+static int host_print_turning(uint64_t answer, const uint8_t *file, size_t file_bytes,
                               const uint8_t *trace, const uint8_t *stamps)
 {
     static struct host_played late, early;
     const uint8_t *late_stamps = stamps;
-    const uint8_t *early_stamps = stamps + 4 * (size_t)answer.steps;
+    unsigned k = sandgusset_first(answer), m = sandgusset_second(answer), steps = sandgusset_steps(answer);
+    const uint8_t *early_stamps = stamps + 4 * (size_t)steps;
     unsigned j;
 
-    if (!host_play(&late, file, file_bytes, trace, late_stamps, answer.steps) ||
-        !host_play(&early, file, file_bytes, trace, early_stamps, answer.steps))
+    if (!host_play(&late, file, file_bytes, trace, late_stamps, steps) ||
+        !host_play(&early, file, file_bytes, trace, early_stamps, steps))
         return HOST_FAILED;
 
-    printf("turning: steps K = %u and M = %u respond in either order\n\n", answer.first, answer.second);
+    printf("turning: steps K = %u and M = %u respond in either order\n\n", k, m);
 
     printf("The trace and its two words, stamps in ticks\n");
     printf("    step  transition        late       early\n");
-    for (j = 0; j < answer.steps; j++)
-        printf("  %c %4u %11u %11.3f %11.3f\n", host_mark(answer, j + 1), j + 1, host_number(trace, j),
-               host_ticks(host_time(late_stamps, j)), host_ticks(host_time(early_stamps, j)));
+    for (j = 0; j < steps; j++)
+        printf("  %c %4u %11u %11.3f %11.3f\n", host_mark(answer, j + 1), j + 1, sandgusset_get16(trace, j),
+               host_ticks(sandgusset_get32(late_stamps, j)), host_ticks(sandgusset_get32(early_stamps, j)));
 
     printf("\nThe two orders of responses, due times in ticks\n");
     printf("    late word                   |    early word\n");
     printf("    step  output         due    |    step  output         due\n");
-    for (j = 0; j < answer.steps; j++) {
+    for (j = 0; j < steps; j++) {
         host_print_response(&late, j, answer, file, trace);
         printf("    |");
         host_print_response(&early, j, answer, file, trace);
         printf("\n");
     }
 
-    if (!host_before(&late, answer.steps, answer.first, answer.second) ||
-        !host_before(&early, answer.steps, answer.second, answer.first)) {
+    if (!host_before(&late, steps, k, m) || !host_before(&early, steps, m, k)) {
         fprintf(stderr, "host: K and M have not changed places; is this the right library?\n");
         return HOST_FAILED;
     }
@@ -249,10 +208,10 @@ static int host_read(const char *name, uint8_t bytes[HOST_FILE_BYTES + 1], size_
 int main(int argc, char **argv)
 {
     static uint8_t file[HOST_FILE_BYTES + 1];
-    static uint8_t trace[HOST_TRACE_BYTES];
-    static uint8_t stamps[HOST_STAMP_BYTES];
+    static uint8_t trace[SANDGUSSET_TRACE_BYTES];
+    static uint8_t stamps[SANDGUSSET_STAMP_BYTES];
     size_t file_bytes;
-    struct host_answer answer;
+    uint64_t answer;
 
     if (argc != 2) {
         fprintf(stderr, "usage: host FILE\n");
@@ -263,24 +222,24 @@ int main(int argc, char **argv)
 
     /* The library reads the file and writes into the two lent buffers; they must
        not overlap. It keeps none of them. */
-    answer = host_answer_of(sandgusset_judge(file, file_bytes, trace, sizeof trace, stamps, sizeof stamps));
+    answer = sandgusset_judge(file, file_bytes, trace, sizeof trace, stamps, sizeof stamps);
 
-    if (answer.status == HOST_IS_STRICT) {
+    if (sandgusset_status(answer) == SANDGUSSET_STRICT) {
         printf("strict: no word activates two traces, and every trace has one order of responses\n");
         return HOST_JUDGED;
     }
-    if (answer.status <= HOST_LAST_REFUSAL) {
+    if (sandgusset_refused(answer)) {
         host_print_refusal(stdout, answer);
         return HOST_REFUSED;
     }
-    if (answer.status == HOST_IS_SPLIT && answer.steps <= HOST_STEPS) {
+    if (sandgusset_status(answer) == SANDGUSSET_SPLIT && sandgusset_steps(answer) <= HOST_STEPS) {
         host_print_split(answer, trace, stamps);
         return HOST_JUDGED;
     }
-    if (answer.status == HOST_IS_TURNING && answer.steps <= HOST_STEPS)
+    if (sandgusset_status(answer) == SANDGUSSET_TURNING && sandgusset_steps(answer) <= HOST_STEPS)
         return host_print_turning(answer, file, file_bytes, trace, stamps);
 
     fprintf(stderr, "host: an answer that this host does not know: %u %u %u %u\n",
-            answer.status, answer.first, answer.second, answer.steps);
+            sandgusset_status(answer), sandgusset_first(answer), sandgusset_second(answer), sandgusset_steps(answer));
     return HOST_FAILED;
 }

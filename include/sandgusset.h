@@ -12,6 +12,8 @@
  *   - All numbers in buffers are little-endian: transition numbers and step numbers take places of two bytes, stamps
  *     and due times places of four. sandgusset_get16 and its sisters below read and write such places.
  *   - Room counts whole places: 5 bytes are two places of two, and the fifth byte is never touched.
+ *   - Nothing is kept, and no memory is asked for: a call works in what is lent and on its stack, of which it uses less
+ *     than 96 KB.
  *   - A refused call writes nothing. Places that a result does not use, and bytes after the last whole place, keep
  *     what they held.
  *
@@ -102,9 +104,9 @@ extern "C" {
  *          hold a trace from the initial state. Stamp places 0 to n-1 hold the late word, under which K responds before
  *          M; places n to 2n-1 hold the early word, under which M responds before K. Both count from stamp 0. The late
  *          word takes the gap v at every step; the early word takes u and 1/256 tick at steps K+1 to M, v elsewhere.
- *          Step K is the lowest-numbered transition that can be the first of such a pair, at its first place in the
- *          shown trace.
- * A table that is both is answered as split. */
+ *          Step K is the lowest-numbered reachable transition that can be the first of such a pair, at its first place in
+ *          the shown trace.
+ * A shown trace has at most 270 steps; which of several it is, is free. A table that is both is answered as split. */
 uint64_t sandgusset_judge(const uint8_t *file, size_t file_len,
                           uint8_t *trace, size_t trace_len,
                           uint8_t *stamps, size_t stamps_len);

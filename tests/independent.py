@@ -1454,7 +1454,7 @@ def fixed_cases():
         between = n - 1
         traced("D = 239 over %d steps of (1,2]" % n, Table(1, 0, [(0, 0, 1, 0, 1, 2, 240), (0, 1, 1, 0, 1, 2, 1)]),
                [0] * 1 + [0] * between + [1])
-    traced("k is step 1, m is step 120 at the least", long_pair, [0] * 120 + [1], pack(TURNING, 1, 121, 121))
+    traced("k is step 1, m is step 121 at the least", long_pair, [0] * 120 + [1], pack(TURNING, 1, 121, 121))
     traced("V = 238 is too little for D = 239", long_pair, [0] * 119 + [1], steady)
     traced("the pair stands at the end of 512 steps", long_pair, [1] * 391 + [0] * 120 + [1], pack(TURNING, 392, 512, 512))
     traced("like outputs don't excuse turning", Table(2, 0, [(0, 0, 9, 1, 1, 2, 9), (1, 0, 9, 1, 1, 7, 2)]), (0, 1),
@@ -1576,6 +1576,8 @@ def main():
         fixed = [c for c in fixed_cases() if c.name == args.only]
         numbers = [int(args.only)] if args.only.isdigit() else []
 
+    if not args.quiet:
+        print("seed %d" % args.seed, flush=True)
     driver = Driver(shlex.split(args.run) + [os.path.abspath(args.driver)])
     began = told = time.monotonic()
     passed = failed = skipped = 0
@@ -1588,8 +1590,15 @@ def main():
         for index in numbers:
             yield random_case(args.seed, index)
 
+    def again(case):
+        number = case.name.split()[1] if case.name.startswith("random ") else shlex.quote(case.name)
+        return "  again with: --seed %d --only %s" % (args.seed, number)
+
     for case, rng in all_cases():
-        wrong = try_case(driver, case, rng)
+        try:
+            wrong = try_case(driver, case, rng)
+        except Disagreement as fault:
+            sys.exit("a fault of this program: %s differ\n%s\n%s" % (fault, case.name, again(case)))
         tally.setdefault(case.call, {}).setdefault(case.kind, 0)
         tally[case.call][case.kind] += 1
         if wrong is None:
@@ -1603,8 +1612,7 @@ def main():
                 print("FAILED: %s | %s" % (case.name, wrong))
                 if not args.quiet:
                     print(describe(case))
-                    again = case.name.split()[1] if case.name.startswith("random ") else shlex.quote(case.name)
-                    print("  again with: --seed %d --only %s" % (args.seed, again), flush=True)
+                    print(again(case), flush=True)
             if args.first:
                 break
         if not args.quiet and time.monotonic() - told > 5:

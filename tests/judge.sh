@@ -206,18 +206,31 @@ verdict 'what comes after 8192 bytes is not read' $?
 [ "$left" -eq 0 ] && [ "$(head -n 1 out)" = 'turning 1 2' ]
 verdict 'less than 8192 bytes are read to the end' $?
 
-# ---- Input in pieces: the writer waits until the program reads ----
+# ---- Input in pieces: each part is written when the program has read what came before ----
 
-# pieces FILE SIZE...: the file's bytes in parts of these sizes, and what is left.
+cat >pieces.py <<'PYTHON'
+# pieces.py FILE SIZE...: writes the file's bytes in parts of these sizes, and what is left. Waits until the pipe is empty
+# after each part, so that the reader gets each in a read of its own; ends early if the reader is gone.
+import array, fcntl, os, select, sys, termios, time
+
+with open(sys.argv[1], "rb") as file:
+    data = file.read()
+gone = select.poll()
+gone.register(1, 0)
+until = time.time() + 300
+for size in [int(word) for word in sys.argv[2:]] + [len(data)]:
+    part, data = data[:size], data[size:]
+    try:
+        os.write(1, part)
+    except BrokenPipeError:
+        break
+    waiting = array.array("i", [len(part)])
+    while waiting[0] > 0 and not gone.poll(0) and time.time() < until:
+        time.sleep(0.002)
+        fcntl.ioctl(1, termios.FIONREAD, waiting)
+PYTHON
 pieces() {
-    local file=$1 at=0 size
-    shift
-    sleep 1
-    for size in "$@" 1000000; do
-        tail -c +$((at + 1)) "$file" | head -c "$size"
-        at=$((at + size))
-        sleep 0.2
-    done
+    python3 pieces.py "$@"
 }
 pieces source.bin 4 | answers 'in pieces: four bytes first' "${source_lines[@]}"
 pieces source.bin 1 65 | answers 'in pieces: one byte first' "${source_lines[@]}"
@@ -227,13 +240,8 @@ pieces full.bin 10 4609 | answers 'in pieces: more than a page at once' 'turning
 pieces many.bin 3000 1620 4000 | answers 'in pieces: more than 8192 bytes' 'refused 3 at 4616'
 head -c 30 source.bin >cut.bin
 pieces cut.bin 10 16 | answers 'in pieces: cut off' 'refused 1 at 26'
-{
-    sleep 1
-    for byte in $(od -An -v -tx1 source.bin); do
-        bytes "$byte"
-        sleep 0.01
-    done
-} | answers 'in pieces: byte by byte' "${source_lines[@]}"
+# shellcheck disable=SC2046
+pieces source.bin $(yes 1 | head -n 65) | answers 'in pieces: byte by byte' "${source_lines[@]}"
 
 # ---- The script ----
 

@@ -181,7 +181,7 @@ bad 2 '33 states' <<<$'\nstates 33 initial 0'
 bad 1 'initial state 4' <<<'states 4 initial 4'
 bad 1 "'-1' is not a whole" <<<'states 4 initial -1'
 bad 1 "ends where 'initial'" <<<'states 4'
-bad 1 'ends where number of states' <<<'states'
+bad 1 'ends where a number (number of states)' <<<'states'
 bad 1 "'start' where 'initial'" <<<'states 4 start 0'
 bad 1 "'1' after the end" <<<'states 4 initial 0 1'
 bad 2 "'state' where" <<<$'states 4 initial 0\nstate 4'
@@ -191,7 +191,7 @@ bad 2 'letter b 256' <<<$'letter a 255\nletter b 256\nstates 1 initial 0'
 bad 3 "'a' was given on line 1" <<<$'letter a 1\nletter b 1\nletter a 1\nstates 1 initial 0'
 bad 1 "'1a' is no name" <<<$'letter 1a 1\nstates 1 initial 0'
 bad 1 "'delay' has its own meaning" <<<$'letter delay 1\nstates 1 initial 0'
-bad 1 'ends where letter a' <<<$'letter a\nstates 1 initial 0'
+bad 1 'ends where a number (letter a)' <<<$'letter a\nstates 1 initial 0'
 bad 1 "'2' after the end" <<<$'letter a 1 2\nstates 1 initial 0'
 bad 2 "name 'a'" <<<$'states 1 initial 0\n0 -> 0 input a output 1 (1,2] delay 3\nletter a 1'
 bad_row "input: no line.*'b'" '0 -> 1 input b output 2 (5,20] delay 40'
@@ -199,6 +199,9 @@ bad_row "output: no line.*'A'" '0 -> 1 input a output A (5,20] delay 40'
 bad_row 'input 256' '0 -> 1 input 256 output 2 (5,20] delay 40'
 bad_row 'output 256' '0 -> 1 input 2 output 256 (5,20] delay 40'
 bad_row 'far too large' '0 -> 1 input 2 output 4294967296 (5,20] delay 40'
+bad_row 'letters are' '0 -> 1 input 2 output 0000000000000256 (5,20] delay 40'
+bad_row 'byte 0xff where .input' $'0 -> 1 \xff 2 output 4 (5,20] delay 40'
+bad 1 'byte 0xff where .states' < <(printf '\xff\xfes\0t\0')
 bad_row "'output' where a letter" '0 -> 1 input output 2 (5,20] delay 40'
 
 # Transitions.
@@ -215,7 +218,7 @@ bad_row "')' where ']'" '0 -> 1 input a output 2 (5,20) delay 40'
 bad_row "'->' must stand" '0 1 input a output 2 (5,20] delay 40' '0 => 1 input a output 2 (5,20] delay 40'
 bad_row "'5.5' is not a whole" '0 -> 1 input a output 2 (5.5,20] delay 40'
 bad_row "ends where 'delay'" '0 -> 1 input a output 2 (5,20]' '0 -> 1 input a output 2 (5,20] # delay 40'
-bad_row 'ends where delay' '0 -> 1 input a output 2 (5,20] delay'
+bad_row 'ends where a number (delay)' '0 -> 1 input a output 2 (5,20] delay'
 bad_row "'again' after the end" '0 -> 1 input a output 2 (5,20] delay 40 again'
 bad_row "'a' where" 'a -> 1 input a output 2 (5,20] delay 40'
 {
@@ -278,5 +281,24 @@ for cut in 0 1 3 4 7 8 9 12 25 26 27 30 43 44 47 48 61 62 63 65; do
     at=$((cut < 8 ? 0 : 8 + (cut - 8) / 18 * 18))
     head -c "$cut" "$root/examples/source-trace.bin" | refused 1 $at "cut to $cut bytes"
 done
+
+# ---- Calls that can't be served: status 2 and one line ----
+
+# unserved NAME PATTERN: what run left in $status, out and err is that.
+unserved() {
+    [ "$status" -eq 2 ] && [ ! -s out ] && [ "$(wc -l <err)" -eq 1 ] && grep -q "$2" err
+    verdict "$1" $?
+}
+run pack nowhere.table
+unserved 'a text that is not there' '^nowhere\.table: No such file'
+run unpack ''
+unserved 'an empty name' "^'': No such file"
+"$python" -I -S "$table" pack - >out 2>err <&-
+status=$?
+unserved 'standard input is closed' 'standard input is closed'
+: >out
+"$python" -I -S "$table" pack known.table 2>err >&-
+status=$?
+unserved 'standard output is closed' 'standard output is closed'
 
 finish

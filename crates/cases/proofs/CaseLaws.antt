@@ -37,7 +37,7 @@ use Rattle.replay.proofs.OutcomeLaws as replay
 use Rattle.verdict.specs.declared.OnTrace.{OnTrace}
 use Rattle.verdict.specs.declared.OnTrace.the-variants.{Steady, Turning, Refused as Unjudged}
 use Rattle.verdict.specs.OnTrace.{TraceOutcome}
-use Rattle.words.specs.Shows.{wordsLeft}
+use Rattle.words.specs.Left.{wordsLeft}
 use Rattle.verdict.proofs.JudgeLaws.{Tested, steady, turning}
 use Rattle.verdict.proofs.JudgeLaws as verdict
 use Rattle.table_verdict.specs.declared.OnTable.{OnTable}

@@ -1,4 +1,5 @@
--- The answer of an export: "four 16-bit fields, lowest first: status, first, second, steps; fields not named are 0".
+-- The answer of an export, as the header says it: "four fields of 16 bits, lowest first: status, first, second, steps. Fields that are not
+-- named for an answer are 0."
 use Prim.Native.Nat.{ℕ, _+_, _*_, _%_, _/_, _<_}
 use Rattle.table.specs.declared.Refusal.{Refusal}
 use Rattle.table.specs.Refusal.{refusalNumber, refusalPlace}
@@ -35,18 +36,18 @@ pub record Fits (f : Fields) : Type 0 where
   pub second-fits : f .second < 65536
   pub steps-fits : f .steps < 65536
 
--- "1..255: refused with that number, first = place"
+-- "refused with this number; first is the place"
 abbrev pub refusedFields : Refusal → Fields
 refusedFields r = fields (refusalNumber r) (refusalPlace r) 0 0
 
--- "256: split, first I, second J, steps. 257: turning, first K, second M, steps": the shown trace of a table ends at M
+-- "split: status 256; first I, second J, steps n"; "turning: status 257; first K, second M, steps n = M"
 abbrev pub tableFields : OnTable → Fields
 tableFields Strict = fields 0 0 0 0
 tableFields (Split i j n) = fields 256 i j n
 tableFields (TurningTable k m) = fields 257 k m m
 tableFields (Refused r) = refusedFields r
 
--- the trace that was handed in has n steps
+-- "turning: status 257; first K, second M, steps n, the number of steps in the trace"
 abbrev pub traceFields : ℕ → OnTrace → Fields
 traceFields n Steady = fields 0 0 0 0
 traceFields n (TurningTrace k m) = fields 257 k m n
@@ -56,7 +57,7 @@ abbrev pub replayFields : Replayed → Fields
 replayFields Played = fields 0 0 0 0
 replayFields (Unplayed r) = refusedFields r
 
--- "rewrite: first = bytes written"
+-- "written: status 0, first the number of bytes written"
 abbrev pub rewriteFields : Written → Fields
 rewriteFields (Bytes n) = fields 0 n 0 0
 rewriteFields (Unwritten r) = refusedFields r

@@ -21,7 +21,7 @@ use Rattle.table.specs.declared.Row.{Row}
 use Rattle.table.specs.Rows.{rows, rowOf, named}
 use Rattle.table.proofs.RowLaws.{length-rows}
 use Rattle.table.proofs.NamedLaws.{named-steps, named-trace}
-use Rattle.words.specs.Shows.{Ready, wordLeft, wordsLeft}
+use Rattle.words.specs.Left.{Ready, wordLeft, wordsLeft}
 use Rattle.words.proofs.WordLaws.{word-plain, words-plain}
 use Rattle.table_verdict.specs.Sound.{Sound}
 use Rattle.table_verdict.specs.Reach.{mark, wayTo, WayFits, WayStands}

@@ -15,7 +15,7 @@ use Rattle.model.proofs.Lists.{total-append, total-const, length-between, all-a
 use Rattle.table.specs.declared.Row.{Row}
 use Rattle.table.specs.Rows.{rowOf, said, named}
 use Rattle.table.proofs.NamedLaws.{length-named, step-named}
-use Rattle.words.specs.Shows.{Ready}
+use Rattle.words.specs.Left.{Ready}
 use Rattle.verdict.specs.declared.pairs.Partner.the-variants.{With, Alone}
 use Rattle.verdict.specs.declared.pairs.Pair.the-variants.{At, Nowhere}
 use Rattle.verdict.specs.Pairs.{Between, PartnerOf, PairOf}

@@ -4,7 +4,7 @@ ghost use Prim.Native.Nat.{_+_, _^_, _<_};
 ghost use lib.ListN.{length};
 ghost use Rattle.model.specs.Answers.{Tells};
 ghost use Rattle.table.specs.Rows.{named};
-ghost use Rattle.words.specs.Shows.{Ready};
+ghost use Rattle.words.specs.Left.{Ready};
 ghost use Rattle.verdict.specs.Pairs.{Between, PartnerOf, PairOf};
 
 // The step that turns with another.

@@ -6,7 +6,7 @@ use Prim.Native.Nat.{ℕ, _+_, _-_}
 use lib.ListN.{length-set, length-take}
 use Rattle.table_verdict.proofs.ShownLaws.{first-known, way-few, way-fits, way-number, way-stands, one-long, split-stands}
 use Rattle.table_verdict.proofs.ShownLaws.{split-traced, split-taken}
-use Rattle.words.specs.Shows.{wordLeft}
+use Rattle.words.specs.Left.{wordLeft}
 use Rattle.table_verdict.specs.declared.OnTable.the-variants.{Split}
 use Rattle.table_verdict.proofs.show.show_split.Statement.{statement}
 use Rattle.table_verdict.proofs.show.show_split.Tie as tie

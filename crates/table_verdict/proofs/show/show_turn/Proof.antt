@@ -6,7 +6,7 @@ use Prim.Native.Nat.{ℕ, _+_, _-_}
 use lib.ListN.{length}
 use lib.ListN.{length-take}
 use Rattle.table_verdict.specs.declared.OnTable.the-variants.{Turning}
-use Rattle.words.specs.Shows.{wordsLeft}
+use Rattle.words.specs.Left.{wordsLeft}
 use Rattle.model.specs.Table.{at}
 use Rattle.table.specs.Rows.{rows}
 use Rattle.table_verdict.specs.Reach.{wayTo}
