@@ -53,7 +53,8 @@
  * TIME
  *   Stamps are 32-bit counts of 1/256 tick on a counter that wraps. A gap is the difference of successive stamps
  *   modulo 2^32; it fits a step if it is greater than u and at most v ticks of its transition. A response is due d
- *   ticks after its step. At equal due times the earlier step responds first.
+ *   ticks after its step. At equal due times the earlier step responds first. A pause longer than a full turn of the
+ *   counter can't be told from a short one.
  */
 #ifndef SANDGUSSET_H
 #define SANDGUSSET_H

@@ -22,6 +22,7 @@ use Rattle.model.proofs.Turn.{ShownTurn, turn-shown, table-walk-law}
 use Rattle.table.specs.declared.Table.{Table}
 use Rattle.table.specs.declared.Checked.the-variants.{Sound}
 use Rattle.table.specs.declared.Refusal.the-variants.{Outside}
+use Rattle.table.specs.Refusal.{refusalNumber, refusalPlace}
 use Rattle.table.specs.Rows.{rows, named, machineOf}
 use Rattle.table.specs.Check.{checkOf}
 use Rattle.table.specs.Tests.{Passes}
@@ -43,7 +44,7 @@ use Rattle.verdict.proofs.JudgeLaws as verdict
 use Rattle.table_verdict.specs.declared.OnTable.{OnTable}
 use Rattle.table_verdict.specs.declared.OnTable.the-variants.{Strict, Split, Turning as TurningTable, Refused as RefusedTable}
 use Rattle.table_verdict.specs.OnTable.{tableTests, AnswersTurning, TableOutcome}
-use Rattle.cases.specs.Cases.{Case, replayed, judged, tabled, sized, Size, over, Holds}
+use Rattle.cases.specs.Cases.{Case, replayed, numbered, judged, tabled, sized, Size, over, Holds}
 
 -- the responses to the word that the stamps make
 unfoldable pub responsesOf : List Transition → ℕ → List ℕ → List Response
@@ -80,6 +81,7 @@ Expects m (RefusedTable r) trace stamps = ⊥
 abbrev pub Computed : Case → Type 0
 Computed (replayed t trace start stamps answer order due) =
     Tested t trace × (length stamps ≡ length trace) × Replays (stepsIn t trace) start stamps answer order due
+Computed (numbered r number place) = (refusalNumber r ≡ number) × (refusalPlace r ≡ place)
 Computed (judged t trace answer) =
     let tr : List Transition = stepsIn t trace in
     Tested t trace × (tr ≡ at tr 0 ∷ at tr 1 ∷ []) × Judges (at tr 0) (at tr 1) answer
@@ -183,7 +185,7 @@ module _ (t : Table) (sound : checkOf t ≡ Sound) (unsplit : (i j : ℕ) → Sp
         second-step = omega (arith, p .2);
         ends = s .ends;
         lowest = λ j f.
-            let q = two (f .trace) (f .end) (f .k) (f .later) (f .path) (f .turns .ordered) (rw length-steps at (f .turns .inside)) in
+            let q = two (f .trace) (f .end) (f .k) (f .later) (f .path) (f .turns .early .ordered) (rw length-steps at (f .turns .early .inside)) in
             let e : getD (s .trace) (s .k) 0 ≡ j = cc (p .0, p .1, q .0, q .1, f .here) in
             omega arith;
         earliest = λ x h. absurd (omega (arith, p .1));
@@ -210,7 +212,7 @@ module _ (t : Table) (sound : checkOf t ≡ Sound) (unsplit : (i j : ℕ) → Sp
       let w = table-walk-law m valid .0 (x .1 .only .turns) in absurd (none (w .0) (w .1))
   told (TurningTable k n) trace stamps c Strict l s x = absurd (x .1 .steady (table-walk-law m valid .1 (c .0)))
   told (TurningTable k n) trace stamps (some, two, f, g, es, len) (TurningTable k' n') l s (_, y) =
-      let p = two (y .shown) (y .end) (y .k) (y .last) (y .path) (y .turns .ordered) (omega (arith, y .ends)) in
+      let p = two (y .shown) (y .end) (y .k) (y .last) (y .path) (y .turns .early .ordered) (omega (arith, y .ends)) in
       let tr : List Transition = steps (m .transitions) trace in
       (cc, cc, cc (append-assoc (stampsOf (lateWord tr)) (stampsOf (earlyWord tr 0 1)) (drop (length stamps) s₀), length-steps (m .transitions) trace))
 
@@ -218,6 +220,7 @@ pub computed-holds : (c : Case) → Computed c → Holds c
 computed-holds (replayed t trace start stamps answer os ds) (h, e, c) = λ o₀ d₀ ho hd.
     let y = replays h start stamps e answer os ds c o₀ d₀ ho hd in
     (y, λ r o d x. replay.outcome-only t trace start stamps o₀ d₀ r answer o d _ _ x y)
+computed-holds (numbered r number place) c = c
 computed-holds (judged t trace answer) (h, is, c) = λ s₀ room.
     let y = judges h is s₀ room answer c in
     (y, λ r s x. verdict.outcome-only t trace s₀ r answer s (y .0) x (y .1) .0)

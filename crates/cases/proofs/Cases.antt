@@ -81,6 +81,7 @@ all-hold =
     (all-cons (source-tested, refl, (omega arith, refl, refl))
     (all-cons (source-tested, refl, (omega arith, refl, refl))
     (all-cons (source-tested, refl, ((1, at-once (omega arith) (omega arith), refl), refl, refl))
+    (all-cons (refl, refl)
     (all-cons (two-tested _ refl, refl, omega arith)
     (all-cons (two-tested _ refl, refl, omega arith)
     (all-cons (two-tested _ refl, refl, omega arith)
@@ -90,4 +91,4 @@ all-hold =
     (all-cons (one-tested, refl, (omega arith, refl, refl))
     (all-cons (λ states initial h. (bare-sound states initial h, λ i j p. omega arith, (λ i w. omega arith, refl, refl)))
     (all-cons (refl, short-unsplit, ((0, short-walk), short-two, refl, refl, refl, refl))
-    all-nil))))))))))))
+    all-nil)))))))))))))

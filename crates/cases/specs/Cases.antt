@@ -5,7 +5,9 @@ use Prim.Native.Nat.{ℕ, suc, _*_, _≤_, _<_}
 use lib.ListN.{length, drop}
 use Rattle.model.specs.Table.{Transition, Machine}
 use Rattle.table.specs.declared.Table.{Table}
+use Rattle.table.specs.declared.Refusal.{Refusal}
 use Rattle.table.specs.declared.Refusal.the-variants.{Outside}
+use Rattle.table.specs.Refusal.{refusalNumber, refusalPlace}
 use Rattle.table.specs.Rows.{tableOf}
 use Rattle.replay.specs.declared.Replayed.{Replayed}
 use Rattle.replay.specs.declared.Replayed.the-variants.{Played, Refused}
@@ -20,6 +22,8 @@ use Rattle.table_verdict.specs.OnTable.{TableOutcome}
 pub data Case : Type 0 where
   -- table, trace, start, stamps; the answer, and what stands first in the lent memory: the steps' order, their due times
   replayed : Table → List ℕ → ℕ → List ℕ → Replayed → List ℕ → List ℕ → Case
+  -- a refusal; its number and its place
+  numbered : Refusal → ℕ → ℕ → Case
   -- table, trace; the answer
   judged : Table → List ℕ → OnTrace → Case
   -- table; the answer, and what stands first in the lent memory: the shown trace, its stamps
@@ -41,6 +45,7 @@ Holds (replayed t trace start stamps answer order due) =
     (o₀ d₀ : List ℕ) → length trace ≤ length o₀ → length trace ≤ length d₀
     → ReplayOutcome t trace start stamps o₀ d₀ answer (over order o₀) (over due d₀)
     × ((r : Replayed) (o d : List ℕ) → ReplayOutcome t trace start stamps o₀ d₀ r o d → (r ≡ answer) × (o ≡ over order o₀) × (d ≡ over due d₀))
+Holds (numbered r number place) = (refusalNumber r ≡ number) × (refusalPlace r ≡ place)
 Holds (judged t trace answer) =
     (s₀ : List ℕ) → 2 * length trace ≤ length s₀
     → ((s : List ℕ) × TraceOutcome t trace s₀ answer s) × ((r : OnTrace) (s : List ℕ) → TraceOutcome t trace s₀ r s → r ≡ answer)
@@ -88,6 +93,7 @@ cases =
     onSource (2560 ∷ 6912 ∷ 10496 ∷ []) Played (1 ∷ 3 ∷ 2 ∷ []) (12800 ∷ 13056 ∷ 14592 ∷ []) ∷
     onSource (3840 ∷ 8192 ∷ 11008 ∷ []) Played (3 ∷ 1 ∷ 2 ∷ []) (13568 ∷ 14080 ∷ 15872 ∷ []) ∷
     onSource (5888 ∷ 6912 ∷ 10496 ∷ []) (Refused (Outside 1)) [] [] ∷
+    numbered (Outside 1) 9 1 ∷
     onTwo 8 Steady ∷
     onTwo 10 Steady ∷
     onTwo 13 Steady ∷

@@ -45,6 +45,12 @@ module _ (w : ℕ) (b out₀ : List ℕ) where
       let g = whole-all (length out₀) w b e h in
       record { count = rw g (sym (length-wholes w b)); few = h; is = rw g f }
 
+  -- two outcomes that the contract allows are equal, count and content
+  pub decoded-only : {n m : ℕ} {x y : List ℕ} → Decoded w b out₀ n x → Decoded w b out₀ m y → (n ≡ m) × (x ≡ y)
+  decoded-only c d =
+      let e = c .count ∙ sym (d .count) in
+      (e, c .is ∙ rw e (sym (d .is)))
+
   -- the first n places are what fits
   pub decoded-take : {n : ℕ} {out : List ℕ} → Decoded w b out₀ n out → take n out ≡ fitted (length out₀) w b
   decoded-take {n} d = rw (d .is) (take-at (fitted (length out₀) w b) (drop n out₀) n (sym (d .count)))

@@ -23,7 +23,8 @@ traceTest m trace = unless NoTrace ((length trace % 2 ≡ 0) × Handed (m .trans
 unfoldable pub fitted : ℕ → ℕ → List ℕ → List ℕ
 fitted room w b = cond (ltb 0 (length b % w)) [] (cond (ltb room (length b / w)) [] (wholes w b))
 
--- what the call on values is handed: nothing if the list is longer than any trace, since an empty list gets the same number
+-- what the call on values is handed: nothing if a byte is left over or the list is longer than any trace. Both are refused as nothing is: an
+-- empty trace is 6, and after that test no stamps are 7.
 abbrev pub handedOn : ℕ → List ℕ → List ℕ
 handedOn w b = fitted 512 w b
 

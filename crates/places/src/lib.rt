@@ -4,7 +4,7 @@ ghost use lib.ListN.{take};
 ghost use Rattle.wire.specs.Bytes.{bytes, placed};
 ghost use Rattle.places.specs.Places.{Decoded};
 
-// The numbers of two bytes that a call is handed, and how many they are.
+// The numbers of two bytes that a call is handed, and how many: none where a byte is left over or they have no room.
 pub fn twos_in(b: &[u8], out: &mut [u16]) -> usize
     ensures { λ n. ⌜ Decoded 2 (now (b .entry)) (now (out .entry)) n (now (out .exit)) ⌝ }
 {
@@ -18,7 +18,7 @@ pub fn twos_in(b: &[u8], out: &mut [u16]) -> usize
     b.len() / 2
 }
 
-// The numbers of four bytes that a call is handed, and how many they are.
+// The numbers of four bytes that a call is handed, and how many: none where a byte is left over or they have no room.
 pub fn fours_in(b: &[u8], out: &mut [u32]) -> usize
     ensures { λ n. ⌜ Decoded 4 (now (b .entry)) (now (out .entry)) n (now (out .exit)) ⌝ }
 {

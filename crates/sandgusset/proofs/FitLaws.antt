@@ -108,7 +108,7 @@ module _ (file trace stamps₀ : List ℕ) where
   trace-machine m (TurningTrace k l) stamps x =
       let t = x .tested .0 in
       let p = x .pair .turns in
-      omega (arith, x .first-step, x .second-step, p .ordered, p .inside, steps-few m trace t, path-few m trace t)
+      omega (arith, x .first-step, x .second-step, p .early .ordered, p .early .inside, steps-few m trace t, path-few m trace t)
   trace-machine m (Unjudged r) stamps x = fails-fit (traceTests m trace stamps₀) r (omega arith, (omega arith, tt)) (x .0)
 
   judge-trace-bytes : (a : OnTrace) (stamps : List ℕ) → JudgeTraceBytesOutcome file trace stamps₀ a stamps → Fits (traceFields (length trace / 2) a)
@@ -122,7 +122,7 @@ module _ (file trace₀ stamps₀ : List ℕ) (b : Bytes file) where
       omega (arith, v .few, s .few, s .pair .pair .ordered, s .pair .pair .inside)
   table-machine m v (TurningTable k l) trace stamps x =
       let s = x .1 .shown in
-      omega (arith, s .few, s .first-step, s .second-step, s .ends, s .turns .ordered)
+      omega (arith, s .few, s .first-step, s .second-step, s .ends, s .turns .early .ordered)
   table-machine m v (Refused r) trace stamps x = fails-fit (roomTests trace₀ stamps₀) r (omega arith, tt) (x .0)
 
   judge-bytes : (a : OnTable) (trace stamps : List ℕ) → JudgeTableBytesOutcome file trace₀ stamps₀ a trace stamps → Fits (tableFields a)

@@ -40,14 +40,14 @@ pub record Fits (f : Fields) : Type 0 where
 abbrev pub refusedFields : Refusal → Fields
 refusedFields r = fields (refusalNumber r) (refusalPlace r) 0 0
 
--- "split: status 256; first I, second J, steps n"; "turning: status 257; first K, second M, steps n = M"
+-- split: "status 256; first I, second J .. steps n"; turning: "status 257; first K, second M .. steps n = M"
 abbrev pub tableFields : OnTable → Fields
 tableFields Strict = fields 0 0 0 0
 tableFields (Split i j n) = fields 256 i j n
 tableFields (TurningTable k m) = fields 257 k m m
 tableFields (Refused r) = refusedFields r
 
--- "turning: status 257; first K, second M, steps n, the number of steps in the trace"
+-- turning: "status 257; first K, second M .. steps n, the number of steps in the trace"
 abbrev pub traceFields : ℕ → OnTrace → Fields
 traceFields n Steady = fields 0 0 0 0
 traceFields n (TurningTrace k m) = fields 257 k m n
@@ -57,7 +57,7 @@ abbrev pub replayFields : Replayed → Fields
 replayFields Played = fields 0 0 0 0
 replayFields (Unplayed r) = refusedFields r
 
--- "written: status 0, first the number of bytes written"
+-- written: "status 0, first the number of bytes written"
 abbrev pub rewriteFields : Written → Fields
 rewriteFields (Bytes n) = fields 0 n 0 0
 rewriteFields (Unwritten r) = refusedFields r

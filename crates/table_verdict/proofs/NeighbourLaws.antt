@@ -11,14 +11,14 @@ use Rattle.model.specs.Trace.{Trace, steps}
 use Rattle.model.specs.Span.{span}
 use Rattle.table_verdict.specs.declared.search.Found.the-variants.{Nothing}
 use Rattle.table_verdict.specs.Walks.{Seen, Starts, Least}
-use Rattle.table_verdict.specs.Neighbours.{Overtakes, Overtaken, AnyOvertaken}
+use Rattle.table_verdict.specs.Neighbours.{OvertakesNext, Overtaken, AnyOvertaken}
 
 -- what the tests told, with the transitions that the code has read
 module _ {ts : List Transition} {k m : ℕ} {first next : Transition} (z : Seen ts k first) (w : Seen ts m next) where
-  pub overtaken-by : Overtakes first next → Overtaken ts k
+  pub overtaken-by : OvertakesNext first next → Overtaken ts k
   overtaken-by o = record { m = m; known = w .known; overtakes = rw (z .here, w .here) o }
 
-  pub not-by : (Overtakes first next → ⊥) → Overtakes (at ts k) (at ts m) → ⊥
+  pub not-by : (OvertakesNext first next → ⊥) → OvertakesNext (at ts k) (at ts m) → ⊥
   not-by n = rw (z .here, w .here) n
 
 pub any-at : {ts : List Transition} {n k : ℕ} → length ts ≡ n → k < n → Overtaken ts k → AnyOvertaken ts
@@ -26,7 +26,7 @@ any-at {k = k} len h o = record { k = k; known = omega arith; overtaken = o }
 
 -- none of the first i, and i is all of them
 module _ {ts : List Transition} {n i : ℕ} (len : length ts ≡ n) (all : n ≤ i) where
-  pub not-overtaken : {k : ℕ} → ((x : ℕ) → x < i → Overtakes (at ts k) (at ts x) → ⊥) → Overtaken ts k → ⊥
+  pub not-overtaken : {k : ℕ} → ((x : ℕ) → x < i → OvertakesNext (at ts k) (at ts x) → ⊥) → Overtaken ts k → ⊥
   not-overtaken b o = b (o .m) (omega (arith, o .known)) (o .overtakes)
 
   pub none-overtaken : ((x : ℕ) → x < i → Overtaken ts x → ⊥) → AnyOvertaken ts → ⊥

@@ -66,7 +66,7 @@ module _ {m : Machine} where
         rw (turn-shown a) (record {
           whole = a .second-step ∙ sym (a .ends);
           some = omega (arith, a .first-step);
-          inside = omega (arith, a .first-step, a .second-step, a .turns .ordered);
+          inside = omega (arith, a .first-step, a .second-step, a .turns .early .ordered);
           first = λ x s h e. a .earliest (x - 1) (omega arith) (e ∙ ap (λ (y : ℕ). getD (a .shown) y 0) z);
         })
 

@@ -9,7 +9,7 @@ use native.Mathlib.Omega.{arith}
 use lib.ListN.{length, set, replicate, length-set, length-replicate, getD-replicate}
 use lib.Seq.{getD-set-same, getD-set-other}
 use Rattle.model.specs.Table.{Transition, at}
-use Rattle.table_verdict.specs.Reach.{mark, wayIn, LeadsIn, Linked, Met, Breadth, Starts, Reach, wayTo}
+use Rattle.table_verdict.specs.Reach.{mark, wayIn, LeadsIn, Linked, Met, Breadth, StartMarks, Reach, wayTo}
 use Rattle.table_verdict.specs.Rounds.{unmarked, Round, Led, led-on, led-nowhere, SameStart}
 use Rattle.table_verdict.proofs.ReachLaws.{marked-in, trace-marked, way-trace}
 
@@ -43,7 +43,7 @@ same-refl a = record { same = λ s. (λ e. e, λ e. e) }
 pub same-trans : {a b c : List ℕ} → SameStart a b → SameStart b c → SameStart a c
 same-trans p q = record { same = λ s. (λ e. p .same s .0 (q .same s .0 e), λ e. q .same s .1 (p .same s .1 e)) }
 
-pub start-kept : {a b : List ℕ} {initial : ℕ} → SameStart a b → Starts initial a → Starts initial b
+pub start-kept : {a b : List ℕ} {initial : ℕ} → SameStart a b → StartMarks initial a → StartMarks initial b
 start-kept p start s = (λ e. start s .0 (p .same s .0 e), λ e. p .same s .1 (start s .1 e))
 
 -- transition i in round r
@@ -184,7 +184,7 @@ module _ (ts : List Transition) (dist via : List ℕ) (initial : ℕ) (fresh : d
   room-first : initial < length dist
   room-first = omega (arith, wide)
 
-  pub first-marks : Starts initial first
+  pub first-marks : StartMarks initial first
   first-marks s = (
     λ e. ⊎-elim (λ q. q) (λ k. absurd (omega (arith, bare s))) (put-cases dist initial 1 room-first s),
     λ e. rw e (put-here dist initial 1 room-first),
@@ -214,7 +214,7 @@ module _ (ts : List Transition) (dist via : List ℕ) (initial : ℕ) (fresh : d
 
 -- the rounds are over: every state with a mark was looked at
 module _ {ts : List Transition} {initial : ℕ} {dist via : List ℕ} {r top : ℕ} where
-  pub rounds-reach : Round ts dist via r 0 top → top < r → Starts initial dist → Reach ts initial dist via
+  pub rounds-reach : Round ts dist via r 0 top → top < r → StartMarks initial dist → Reach ts initial dist via
   rounds-reach round over start = record {
     linked = round .linked;
     start = start;

@@ -6,7 +6,7 @@ use lib.ListN.{length}
 use Rattle.model.specs.Table.{Transition, at}
 
 -- m can follow k, and U + d_m < d_k
-pub record Overtakes (k m : Transition) : Type 0 where
+pub record OvertakesNext (k m : Transition) : Type 0 where
   pub joined : m .from ≡ k .to
   pub above : m .d + m .u < k .d
 
@@ -14,7 +14,7 @@ pub record Overtakes (k m : Transition) : Type 0 where
 pub record Overtaken (ts : List Transition) (k : ℕ) : Type 0 where
   pub m : ℕ
   pub known : m < length ts
-  pub overtakes : Overtakes (at ts k) (at ts m)
+  pub overtakes : OvertakesNext (at ts k) (at ts m)
 
 -- some transition of the table can overtake the one right before it
 pub record AnyOvertaken (ts : List Transition) : Type 0 where

@@ -41,13 +41,13 @@ abbrev pub MarksReached : List Transition → ℕ → List ℕ → Type 0
 MarksReached ts s dist = (e : ℕ) → (1 ≤ mark dist e) ↔ Reached ts s e
 
 -- the initial state alone has the mark 1
-abbrev pub Starts : ℕ → List ℕ → Type 0
-Starts initial dist = (s : ℕ) → (mark dist s ≡ 1) ↔ (s ≡ initial)
+abbrev pub StartMarks : ℕ → List ℕ → Type 0
+StartMarks initial dist = (s : ℕ) → (mark dist s ≡ 1) ↔ (s ≡ initial)
 
 -- what breadth first gives
 pub record Reach (ts : List Transition) (initial : ℕ) (dist via : List ℕ) : Type 0 where
   pub linked : Linked ts dist via
-  pub start : Starts initial dist
+  pub start : StartMarks initial dist
   pub most : (s : ℕ) → mark dist s ≤ 32
   pub breadth : Breadth ts dist
   pub tells : MarksReached ts initial dist

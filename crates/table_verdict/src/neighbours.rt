@@ -6,11 +6,11 @@ ghost use Prim.Native.Nat.{_<_};
 ghost use Rattle.model.specs.Answers.{Tells};
 ghost use Rattle.table.specs.Rows.{rows, said};
 ghost use Rattle.table_verdict.specs.Sound.{Sound};
-ghost use Rattle.table_verdict.specs.Neighbours.{Overtakes, Overtaken, AnyOvertaken};
+ghost use Rattle.table_verdict.specs.Neighbours.{OvertakesNext, Overtaken, AnyOvertaken};
 
 // Whether m can follow k and overtake it.
 fn overtakes(k: Row, m: Row) -> bool
-    ensures { λ r. ⌜ Tells r (Overtakes (said k) (said m)) ⌝ }
+    ensures { λ r. ⌜ Tells r (OvertakesNext (said k) (said m)) ⌝ }
 {
     if m.from != k.to {
         return false;

@@ -6,13 +6,13 @@ use Rattle.model.proofs.AnswerLaws.{told, untold}
 use Rattle.model.specs.Table.{at}
 use Rattle.table.specs.Rows.{rows}
 use Rattle.table.proofs.RowLaws.{length-rows}
-use Rattle.table_verdict.specs.Neighbours.{Overtakes}
+use Rattle.table_verdict.specs.Neighbours.{OvertakesNext}
 use Rattle.table_verdict.proofs.NeighbourLaws.{overtaken-by, not-by, not-overtaken}
 use Rattle.table_verdict.proofs.neighbours.overtaken.Statement.{statement}
 use Rattle.table_verdict.proofs.neighbours.overtaken.Tie as tie
 
 abbrev Inv-loop : tie.InvT-loop
-Inv-loop cells count k first m₀ m = (m ≤ count) × ((x : ℕ) → x < m → Overtakes (at (rows cells count) k) (at (rows cells count) x) → ⊥)
+Inv-loop cells count k first m₀ m = (m ≤ count) × ((x : ℕ) → x < m → OvertakesNext (at (rows cells count) k) (at (rows cells count) x) → ⊥)
 
 abbrev μ-loop : tie.MeasureT-loop
 μ-loop cells count k first m₀ m = count - m

@@ -6,7 +6,7 @@ use Prim.Native.Nat.{_≤_, _-_}
 use lib.ListN.{length}
 use Rattle.table.specs.Rows.{rows}
 use Rattle.table.proofs.RowLaws.{length-rows}
-use Rattle.table_verdict.specs.Reach.{Starts}
+use Rattle.table_verdict.specs.Reach.{StartMarks}
 use Rattle.table_verdict.specs.Rounds.{Round}
 use Rattle.table_verdict.proofs.RoundLaws.{first-round, first-marks, round-over, start-kept, rounds-reach}
 use Rattle.table_verdict.proofs.reach.reach.Statement.{statement}
@@ -15,7 +15,7 @@ use Rattle.table_verdict.proofs.reach.reach.Tie as tie
 abbrev Inv-loop : tie.InvT-loop
 Inv-loop cells count initial dist₀ via₀ start top₀ r₀ dist via top r =
     (top ≤ r) × (length dist ≡ length dist₀) × (length via ≡ length via₀) × Round (rows cells count) dist via r 0 top
-    × Starts initial dist
+    × StartMarks initial dist
 
 abbrev μ-loop : tie.MeasureT-loop
 μ-loop cells count initial dist₀ via₀ start top₀ r₀ dist via top r = 33 - r
