@@ -1,5 +1,8 @@
 # What the test scripts share: sourced, not run. The working folder is a new one, removed at the end.
 
+# A script's first comment is its help.
+case ${1-} in -h | --help) sed -n '2,/^\([^#]\|$\)/s/^# \{0,1\}//p' "$0" && exit ;; esac
+
 set -u
 shopt -s lastpipe  # so that a case at the end of a pipe is counted
 root=$(cd "$(dirname "${BASH_SOURCE[0]}")/.." && pwd) || exit 1
@@ -28,6 +31,11 @@ bytes() {
         escaped+="\\x${digits:i:2}"
     done
     printf '%b' "$escaped"
+}
+
+# another_user COMMAND...: runs it as nobody where root asks, who may do anything; anybody else is one already.
+another_user() {
+    if [ "$(id -u)" -ne 0 ]; then "$@"; else setpriv --reuid=65534 --regid=65534 --clear-groups "$@"; fi
 }
 
 # The last line, and the status of the whole.

@@ -1,8 +1,11 @@
 #!/usr/bin/env bash
 # Tests ./judge and the program that it builds: what is printed for tables of every
-# verdict and for damaged files, input that is long or comes in pieces, and what the
-# script does about wrong calls and failed builds. The answers are worked out from
-# document 01; where it leaves the trace free, the shortest way to step k is shown.
+# verdict, for texts and for damaged files, input that is long or comes in pieces, and
+# what the script does about wrong calls and failed builds. The answers are worked out
+# from document 01; where it leaves the trace free, the shortest way to step k is shown.
+#
+#   tests/judge.sh
+#
 # The last line is 'N passed, 0 failed'.
 
 # shellcheck source=tests/common.sh
@@ -11,7 +14,11 @@ judge=$root/judge
 table=$root/tools/table
 
 # The program is built now, so that later calls have nothing to say on standard error.
-"$judge" </dev/null >/dev/null || exit 1
+"$judge" <<<'states 1 initial 0' >/dev/null || exit 1
+
+# The program itself, as ./judge runs it.
+PYTHONPATH=$root/tools python3 -B -m desk.program | mapfile -t program
+[ "${#program[@]}" -gt 1 ] || exit 1
 
 # run ARGUMENT...: calls the script on standard input; its output is in out and err, its status in $status.
 run() {
@@ -19,11 +26,14 @@ run() {
     status=$?
 }
 
-# printed NAME LINE...: the last run printed exactly these lines and nothing else.
+# printed NAME LINE...: the last run printed exactly these lines, with the status of their first word; of a refusal
+# standard error has the words, else it is empty.
 printed() {
-    local name=$1
+    local name=$1 wanted=1
     shift
-    printf '%s\n' "$@" | cmp -s - out && [ "$status" -eq 0 ] && [ ! -s err ]
+    case $1 in strict) wanted=0 ;; refused*) wanted=2 ;; esac
+    printf '%s\n' "$@" | cmp -s - out && [ "$status" -eq "$wanted" ] && { [ "$wanted" -eq 2 ] || [ ! -s err ]; } &&
+        { [ "$wanted" -ne 2 ] || [ -s err ]; }
     verdict "$name" $?
 }
 
@@ -33,16 +43,21 @@ answers() {
     printed "$@"
 }
 
-# judged NAME LINE...: the table whose text is on standard input gets this answer.
+# judged NAME LINE...: the table whose text is on standard input gets this answer, as a file and as the text.
 judged() {
-    "$table" pack - >judged.bin && run judged.bin
-    printed "$@"
+    local name=$1
+    shift
+    cat >judged.table
+    "$table" pack judged.table 2>/dev/null >judged.bin && run judged.bin
+    printed "$name" "$@"
+    run judged.table
+    printed "$name (text)" "$@"
 }
 
-# failed_with STATUS PATTERN NAME: the last run printed nothing, had this status and said so.
-failed_with() {
-    [ "$status" -eq "$1" ] && [ ! -s out ] && grep -q "$2" err
-    verdict "$3" $?
+# trouble PATTERN NAME: the last run printed nothing, had status 3 and said so.
+trouble() {
+    [ "$status" -eq 3 ] && [ ! -s out ] && grep -q "$1" err && ! grep -q Traceback err
+    verdict "$2" $?
 }
 
 # ---- The whole case of document 01 ----
@@ -77,7 +92,7 @@ for text in "$root"/examples/*.table; do
         awk 'NR == 1 { m = $3; bad = !($1 == "turning" && $2 == 1 && 121 <= m && m <= 239 && NF == 3); next }
              { s = NR - 1; t = s == 1 ? 0 : s == m ? 2 : 1 }
              $0 != s " " t " " 512 * s " " 512 + 257 * (s - 1) { bad = 1 }
-             END { exit bad || NR != m + 1 }' out && [ "$status" -eq 0 ] && [ ! -s err ]
+             END { exit bad || NR != m + 1 }' out && [ "$status" -eq 1 ] && [ ! -s err ]
         verdict "example $name" $?
     elif [ ${#lines[@]} -gt 0 ] && [ "$word" = "${lines[0]%% *}" ]; then
         printed "example $name" "${lines[@]}"
@@ -232,71 +247,212 @@ PYTHON
 pieces() {
     python3 pieces.py "$@"
 }
-pieces source.bin 4 | answers 'in pieces: four bytes first' "${source_lines[@]}"
-pieces source.bin 1 65 | answers 'in pieces: one byte first' "${source_lines[@]}"
-pieces source.bin 27 20 18 | answers 'in pieces: cut within records' "${source_lines[@]}"
-pieces full.bin 4100 519 | answers 'in pieces: the longest file' 'turning 1 2' '1 0 512 512' '2 255 1024 769'
-pieces full.bin 10 4609 | answers 'in pieces: more than a page at once' 'turning 1 2' '1 0 512 512' '2 255 1024 769'
-pieces many.bin 3000 1620 4000 | answers 'in pieces: more than 8192 bytes' 'refused 3 at 4616'
+# in_pieces NAME FIRST_LINE FILE SIZE...: the script, and the program itself, answer so if the input comes in these pieces.
+in_pieces() {
+    local name=$1 line=$2
+    shift 2
+    pieces "$@" | timeout 120 "$judge" 2>/dev/null | head -n 1 | grep -qx "$line"
+    verdict "in pieces: $name" $?
+    pieces "$@" | timeout 120 "${program[@]}" | head -n 1 | grep -qx "$line"
+    verdict "in pieces, the program itself: $name" $?
+}
+in_pieces 'four bytes first' 'turning 1 3' source.bin 4
+in_pieces 'one byte first' 'turning 1 3' source.bin 1 65
+in_pieces 'cut within records' 'turning 1 3' source.bin 27 20 18
+in_pieces 'the longest file' 'turning 1 2' full.bin 4100 519
+in_pieces 'more than a page at once' 'turning 1 2' full.bin 10 4609
+in_pieces 'more than 8192 bytes' 'refused 3 at 4616' many.bin 3000 1620 4000
 head -c 30 source.bin >cut.bin
-pieces cut.bin 10 16 | answers 'in pieces: cut off' 'refused 1 at 26'
+in_pieces 'cut off' 'refused 1 at 26' cut.bin 10 16
 # shellcheck disable=SC2046
-pieces source.bin $(yes 1 | head -n 65) | answers 'in pieces: byte by byte' "${source_lines[@]}"
+in_pieces 'byte by byte' 'turning 1 3' source.bin $(yes 1 | head -n 65)
+pieces "$root/examples/source-trace.table" 1 2 3 400 | answers 'in pieces: a text' "${source_lines[@]}"
+
+# ---- Text or table file: text is UTF-8 without control characters, and its first word begins a line ----
+
+text=$root/examples/source-trace.table
+run "$text"
+printed 'text: a file' "${source_lines[@]}"
+answers 'text: standard input' "${source_lines[@]}" <"$text"
+run - <"$text"
+printed 'text: - is standard input' "${source_lines[@]}"
+sed 's/$/\r/' "$text" | answers 'text: CRLF' "${source_lines[@]}"
+tr '\n' '\r' <"$text" | answers 'text: CR' "${source_lines[@]}"
+{ bytes efbbbf; cat "$text"; } | answers 'text: BOM' "${source_lines[@]}"
+{ bytes efbbbf; sed 's/$/\r/' "$text"; } | answers 'text: BOM and CRLF' "${source_lines[@]}"
+{ sed 's/^/  \t/' "$text"; printf '# no end of line'; } | answers 'text: spaces and tabs' "${source_lines[@]}"
+{ for _ in $(seq 400); do echo '# more than eight thousand bytes'; done; cat "$text"; } | answers 'text: long comments' "${source_lines[@]}"
+{ head -c 8190 /dev/zero | tr '\0' ' '; cat "$text"; } | answers 'text: its first word over a limit of reading' "${source_lines[@]}"
+{ head -c 52428800 /dev/zero | tr '\0' '#'; echo; cat "$text"; } >long.table
+run long.table
+printed 'text: 50 MB' "${source_lines[@]}"
+head -c 52428800 /dev/zero | tr '\0' '#' | answers '50 MB without a word' 'refused 2 at 0'
+{ cat source.bin; head -c 52428800 /dev/zero; } >long.bin
+run long.bin
+printed 'a table file and 50 MB' 'refused 2 at 66'
+{ cat "$text"; head -c 52428800 /dev/zero; } | answers 'a text and 50 MB of bytes: no text' 'refused 2 at 0'
+yes '# no end' 2>/dev/null | { run; }
+trouble 'more than 64 MiB of text' 'text: without end'
+rm -f long.table long.bin
+
+# no_text NAME PATTERN: what is on standard input goes to the program as it is, and standard error says why.
+no_text() {
+    cat >no.table
+    run no.table
+    "${program[@]}" <no.table | cmp -s - out && [ "$status" -eq 2 ] && grep -q "$2" err
+    verdict "no text: $1" $?
+}
+no_text 'its first word' "first word is 'hello'" <<<'hello'
+no_text 'a sign first' "first word is '-1'" <<<'-1 -> 0'
+no_text 'comments alone' 'no table file\|at byte 0' <<<'# nothing else'
+{ cat "$text"; bytes 00; } | no_text 'a zero byte' 'control character'
+{ cat "$text"; bytes c285; } | no_text 'a control character beyond ASCII' 'control character'
+{ printf '# caf\xe9\n'; cat "$text"; } | no_text 'Latin-1' 'not UTF-8'
+{ cat "$text"; bytes c3; } | no_text 'UTF-8 that is cut off' 'not UTF-8'
+{ bytes efbbbf; } | no_text 'a BOM alone' 'at byte 0'
+
+# bad_text LINE NAME: the text on standard input has no file; standard error says where, and nothing is printed.
+bad_text() {
+    run
+    [ "$status" -eq 2 ] && [ ! -s out ] && grep -q "^standard input:$1: " err
+    verdict "bad text: $2" $?
+}
+bad_text 2 'a word that is no number' <<<$'states 2 initial 0\n0 -> x input 0 output 0 (1,2] delay 1'
+bad_text 1 'no head' <<<'letter a 1'
+printf 'states 2 initial 0\n\n0 -> 1 input 0 outpt 0 (1,2] delay 1\n0 -> 1 input 0 output 0 (1,2] dely 1\n' | bad_text 3 'two lines, the first'
+grep -q '^standard input:4: ' err
+verdict 'bad text: two lines, the second' $?
+
+# Faults that a file can have are judged by the program, and standard error has the line.
+printf 'states 2 initial 0\n0 -> 1 input 0 output 0 (1,2] delay 1\n\n0 -> 1 input 0 output 0 (1,70000] delay 1\n' |
+    answers 'text: a number out of range' 'refused 4 at 26'
+grep -q '^standard input:4: guard (1,70000\]' err && grep -q '^standard input:4: a number outside its range' err
+verdict 'text: a number out of range, its line' $?
+printf '0 -> 1 input 0 output 0 (1,2] delay 1\n%.0s' 1 2 | sed '1i states 2 initial 0' | answers 'text: equal transitions' 'refused 5 at 26'
+grep -q '^standard input:3: equal to transition 0 on line 2' err
+verdict 'text: equal transitions, the line' $?
+{ full 3; echo '0 -> 1 input 255 output 255 (1,2] delay 4'; } | answers 'text: a 257th transition' 'refused 3 at 4616'
+grep -q '^standard input:258: more than 256' err
+verdict 'text: a 257th transition, its line' $?
+answers 'text: no states' 'refused 4 at 0' <<<'states 0 initial 0'
+answers 'a refusal in words' 'refused 1 at 26' <cut.bin
+grep -q '^standard input: at byte 26: a record is cut off' err
+verdict 'a refusal in words: standard error' $?
 
 # ---- The script ----
 
 run nowhere.bin
-failed_with 2 'nowhere\.bin: there is no such file' 'a file that is not there'
+trouble 'nowhere\.bin: there is no such file' 'a file that is not there'
 run "$work"
-failed_with 2 'directory' 'a directory'
+trouble 'directory' 'a directory'
+run <"$work"
+trouble 'closed or a directory' 'a directory on standard input'
 run ''
-failed_with 2 'no such file' 'an empty name'
+trouble 'no such file' 'an empty name'
+run /proc/self/mem
+trouble "can't be read: Input/output error" 'a read error'
+run <&-
+trouble 'standard input is closed' 'standard input is closed'
+run - <&-
+trouble 'standard input is closed' '- is closed'
+run source.bin <&-
+printed 'a file, standard input being closed' "${source_lines[@]}"
+: >out
+"$judge" source.bin >&- 2>err
+status=$?
+trouble 'standard output is closed' 'standard output is closed'
+"$judge" source.bin >out 2>&-
+status=$?
+: >err
+printed 'standard error is closed' "${source_lines[@]}"
+"$judge" <cut.bin >out 2>&-
+[ $? -eq 2 ] && [ "$(cat out)" = 'refused 1 at 26' ]
+verdict 'standard error is closed: a refusal' $?
 run source.bin source.bin
-failed_with 2 '\./judge \[FILE\]' 'two arguments'
+trouble '\./judge \[OPTIONS\] \[FILE\]' 'two files'
+run --nothing
+trouble 'unrecognized.*--nothing' 'an option that is not there'
 for option in -h --help; do
     run "$option"
-    [ "$status" -eq 0 ] && [ ! -s err ] && grep -q '\./judge \[FILE\]' out
+    [ "$status" -eq 0 ] && [ ! -s err ] && grep -q '\./judge \[OPTIONS\] \[FILE\]' out
     verdict "$option" $?
 done
 mkdir 'a folder'
 cp source.bin 'a folder/a table'
 cp source.bin ./-x
+cp "$text" 'a folder/größe é'
 (cd 'a folder' && "$judge" 'a table' >../out 2>../err)
 status=$?
 printed 'a name with a space, in another folder' "${source_lines[@]}"
-run -x
+run 'a folder/größe é'
+printed 'a name in letters of another script' "${source_lines[@]}"
+run -- -x
 printed 'a name with a dash' "${source_lines[@]}"
 ln -s "$judge" linked
 (cd / && "$work/linked" "$work/source.bin") >out 2>err
 status=$?
 printed 'called by a link' "${source_lines[@]}"
 "$judge" source.bin >/dev/full 2>err
-[ $? -eq 1 ] && [ -s err ]
+[ $? -eq 3 ] && grep -q 'standard output: No space' err && [ "$(wc -l <err)" -eq 1 ]
 verdict 'an answer that can not be written' $?
+PATH=$work/none "$(command -v bash)" "$judge" source.bin >out 2>err
+[ $? -ne 0 ]
+verdict 'no commands at all' $?
+mkdir no-python
+for tool in bash dirname readlink; do ln -s "$(command -v "$tool")" no-python/; done
+PATH=$work/no-python bash "$judge" source.bin >out 2>err
+status=$?
+trouble "no command 'python3'" 'no Python'
 
-# A file that may not be read: root may read any, so there another user asks, with a copy of the script.
-drop=()
-[ "$(id -u)" -ne 0 ] || drop=(setpriv --reuid=65534 --regid=65534 --clear-groups)
+# The checkout, as it must be for the script: the program as it is built, and the sources of the script.
+checkout() {
+    mkdir -p "$1/crates/judge" "$1/tools"
+    cp "$judge" "$1/judge"
+    cp -r "$root/tools/desk" "$1/tools/"
+    printf 'wire:\ntable: wire  # the reader\njudge: table io\nother: judge\n' >"$1/crates.txt"
+    touch "$1/crates/judge/main"
+}
+
+# A checkout that may not be written, and a file that may not be read, asked for by another user.
 chmod 755 "$work"
-cp "$judge" own
+checkout sealed
+mkdir -p sealed/target/bin
+cp "$root/target/bin/judge" sealed/target/bin/judge
 cp source.bin secret.bin
 chmod 000 secret.bin
-"${drop[@]}" bash own secret.bin >out 2>err
+chmod -R a-w,a+rX sealed
+another_user sealed/judge source.bin >out 2>err
 status=$?
-failed_with 2 'secret\.bin: may not be read' 'a file that may not be read'
+printed 'a checkout that may not be written' "${source_lines[@]}"
+another_user sealed/judge secret.bin >out 2>err
+status=$?
+trouble 'secret\.bin: may not be read' 'a file that may not be read'
+chmod -R u+w sealed
+touch -d '+1 minute' sealed/crates/judge/main
+chmod -R a-w sealed
+another_user sealed/judge source.bin >out 2>err
+status=$?
+trouble 'must be built.*can.t be done here.*Permission denied' 'a source is newer, and nothing may be written'
+chmod -R u+w sealed
+rm sealed/target/bin/judge
+chmod -R a-w sealed
+another_user sealed/judge source.bin >out 2>err
+status=$?
+trouble "must be built" 'nothing is built, and nothing may be written'
+chmod -R u+w sealed
 
 # No toolchain: a PATH with the few commands that are used before it is looked for.
+checkout fresh
 mkdir few
-for tool in bash sed dirname readlink; do ln -s "$(command -v "$tool")" few/; done
-PATH=$work/few bash "$judge" source.bin >out 2>err
+for tool in bash dirname readlink; do ln -s "$(command -v "$tool")" few/; done
+ln -s "$(python3 -c 'import sys; print(sys.executable)')" few/python3
+PATH=$work/few bash fresh/judge source.bin >out 2>err
 status=$?
-failed_with 2 "no command 'rt'" 'no toolchain'
+trouble "no command 'rt'" 'no toolchain'
 
 # In a folder where nothing is built, with a stand-in for rt that fails or copies the program.
 kit=${RATTLE_HOME:-$(dirname "$(dirname "$(readlink -f "$(command -v rt)")")")}
-mkdir -p fresh/crates stand-in
-cp "$judge" fresh/judge
-echo 'judge:' >fresh/crates.txt
+mkdir -p stand-in
 # with_rt ARGUMENT...: calls the script of that folder, which finds the stand-in.
 with_rt() {
     RATTLE_HOME=$kit PATH=$work/stand-in:$PATH fresh/judge "$@" >out 2>err
@@ -305,7 +461,7 @@ with_rt() {
 printf '#!/bin/sh\necho "fn judge::main: no proof"\necho "rt: judge NOT PROVED"\nexit 1\n' >stand-in/rt
 chmod +x stand-in/rt
 with_rt source.bin
-failed_with 1 'the program was not built' 'a build that fails'
+trouble 'the program was not built' 'a build that fails'
 grep -q 'fn judge::main: no proof' err
 verdict 'a build that fails: why' $?
 cat >stand-in/rt <<STAND_IN
@@ -315,24 +471,36 @@ cat >/dev/null
 mkdir -p target/bin target/stamp
 cp '$root/target/bin/judge' target/bin/judge
 echo built >target/stamp/judge
-echo 'rt: table proved (unchanged since it was last proved)'
+echo 'rt: wire proved (unchanged since it was last proved)'
+echo 'rt: table proved (2 s)'
 echo 'rt: judge proved (1 s)'
 STAND_IN
 with_rt <source.bin
-printf '%s\n' "${source_lines[@]}" | cmp -s - out && [ "$status" -eq 0 ]
+printf '%s\n' "${source_lines[@]}" | cmp -s - out && [ "$status" -eq 1 ]
 verdict 'a fresh folder: the program is built and the input is not lost' $?
-printf 'judge: building what is missing or has changed; from nothing this takes minutes\nrt: judge proved (1 s)\n' | cmp -s - err
-verdict 'a fresh folder: progress on standard error' $?
+printf 'judge: %s\n' 'building what is missing or has changed; from nothing this takes minutes' \
+    '2 of 3: table proved (2 s)' '3 of 3: judge proved (1 s)' | cmp -s - err
+verdict 'a fresh folder: how far it is, on standard error' $?
 rm fresh/target/bin/judge
 with_rt source.bin
-printf '%s\n' "${source_lines[@]}" | cmp -s - out && [ "$status" -eq 0 ] && grep -q 'building' err
+printf '%s\n' "${source_lines[@]}" | cmp -s - out && [ "$status" -eq 1 ] && grep -q 'building' err
 verdict 'a program that was removed is built again' $?
 printf '#!/bin/sh\necho "rt: judge NOT PROVED"\nexit 1\n' >stand-in/rt
 with_rt source.bin
-failed_with 1 'the program was not built' 'a stale program is not run'
+trouble 'the program was not built' 'a stale program is not run'
+printf '#!/bin/sh\nexit 0\n' >stand-in/rt
+rm fresh/target/bin/judge
+with_rt source.bin
+trouble 'the program was not built' 'a build that builds nothing'
+printf '#!/bin/sh\ncp /bin/true target/bin/judge\n' >stand-in/rt
+with_rt source.bin
+[ "$status" -eq 3 ] && [ ! -s out ] && [ -s err ]
+verdict 'a program that does not answer' $?
 
 # Calls at the same time do not disturb each other.
-for i in 1 2 3 4; do "$judge" source.bin >"out$i" 2>"err$i" & done
+for i in 1 2 3 4; do
+    "$judge" source.bin >"out$i" 2>"err$i" &
+done
 wait
 printf '%s\n' "${source_lines[@]}" >expected
 for i in 1 2 3 4; do

@@ -1,7 +1,11 @@
 #!/usr/bin/env bash
 # Tests tools/table: known texts and files, round trips on the examples and on
-# random tables, bad texts and their line numbers, damaged files and their number
-# and offset. The last line is 'N passed, 0 failed'.
+# random tables, names, bad texts and their line numbers, damaged files and their
+# number and offset, files that are not written over.
+#
+#   tests/tools.sh
+#
+# The last line is 'N passed, 0 failed'.
 
 # shellcheck source=tests/common.sh
 . "$(dirname "$0")/common.sh" || exit 1
@@ -21,8 +25,8 @@ run() {
 bytes 0600 0100 0900 0800  1000 0200 0300 fe00 0500 0700 0001 ff0f f000  0200 0300 >known.bin
 printf 'states 9 initial 8\n3 -> 7 input 254 output 5 (256,4095] delay 240\n' >known.table
 run pack known.table
-[ $status -eq 0 ] && [ ! -s err ] && cmp -s out known.bin
-verdict 'pack: a known text' $?
+[ $status -eq 0 ] && [ "$(cat err)" = "known.table:2: warning: transition 0 can't be reached" ] && cmp -s out known.bin
+verdict 'pack: a known text, with a warning' $?
 run unpack known.bin
 sed 's/ *#.*//; /^$/d' out | tr -s ' ' | cmp -s - known.table && [ $status -eq 0 ] && [ ! -s err ]
 verdict 'unpack: a known file' $?
@@ -77,7 +81,7 @@ for text in "$root"/examples/*.table; do
     run pack "$text"
     [ $status -eq 0 ] && [ ! -s err ] && cmp -s out "$file"
     verdict "example $name: text to file" $?
-    run unpack "$file" again.table
+    run unpack --force "$file" again.table
     run pack again.table
     [ $status -eq 0 ] && cmp -s out "$file"
     verdict "example $name: file to text to file" $?
@@ -133,11 +137,11 @@ PROGRAM
 for file in random/*.bin; do
     name=${file%.bin}
     run pack "$name.table"
-    [ $status -eq 0 ] && [ ! -s err ] && cmp -s out "$file"
+    [ $status -eq 0 ] && ! grep -qv 'warning: transition' err && cmp -s out "$file"
     verdict "$name: text to file" $?
-    run unpack "$file" again.table
+    run unpack --force "$file" again.table
     run pack again.table
-    [ $status -eq 0 ] && [ ! -s err ] && cmp -s out "$file"
+    [ $status -eq 0 ] && ! grep -qv 'warning: transition' err && cmp -s out "$file"
     verdict "$name: file to text to file" $?
 done
 [ "$(wc -c <random/3.bin)" -eq 4620 ]
@@ -145,13 +149,13 @@ verdict 'the longest file was among them' $?
 
 # ---- Bad texts ----
 
-# bad LINE PATTERN: the text on standard input is refused at that line, with a
-# message that has the pattern; status 1, no output, and no file is made.
+# bad LINE PATTERN [LINES]: the text on standard input is refused at that line, with a message that has the pattern,
+# and so many lines in all (1); status 1, no output, and no file is made.
 bad() {
     cat >bad.table
     rm -f bad.bin
     run pack bad.table bad.bin
-    [ $status -eq 1 ] && [ ! -s out ] && [ ! -e bad.bin ] && [ "$(wc -l <err)" -eq 1 ] &&
+    [ $status -eq 1 ] && [ ! -s out ] && [ ! -e bad.bin ] && [ "$(wc -l <err)" -eq "${3-1}" ] &&
         grep -q "^bad\.table:$1: .*$2" err
     verdict "bad text: line $1, $2" $?
 }
@@ -184,7 +188,8 @@ bad 1 "ends where 'initial'" <<<'states 4'
 bad 1 'ends where a number (number of states)' <<<'states'
 bad 1 "'start' where 'initial'" <<<'states 4 start 0'
 bad 1 "'1' after the end" <<<'states 4 initial 0 1'
-bad 2 "'state' where" <<<$'states 4 initial 0\nstate 4'
+bad 2 "'4' is no name" <<<$'states 4 initial 0\nstate 4'
+bad 2 "'stat' where" <<<$'states 4 initial 0\nstat 4'
 
 # Letters and names.
 bad 2 'letter b 256' <<<$'letter a 255\nletter b 256\nstates 1 initial 0'
@@ -201,7 +206,7 @@ bad_row 'output 256' '0 -> 1 input 2 output 256 (5,20] delay 40'
 bad_row 'far too large' '0 -> 1 input 2 output 4294967296 (5,20] delay 40'
 bad_row 'letters are' '0 -> 1 input 2 output 0000000000000256 (5,20] delay 40'
 bad_row 'byte 0xff where .input' $'0 -> 1 \xff 2 output 4 (5,20] delay 40'
-bad 1 'byte 0xff where .states' < <(printf '\xff\xfes\0t\0')
+bad 1 'byte 0xff where .states' 2 < <(printf '\xff\xfes\0t\0')
 bad_row "'output' where a letter" '0 -> 1 input output 2 (5,20] delay 40'
 
 # Transitions.
@@ -290,9 +295,9 @@ unserved() {
     verdict "$1" $?
 }
 run pack nowhere.table
-unserved 'a text that is not there' '^nowhere\.table: No such file'
+unserved 'a text that is not there' '^nowhere\.table: there is no such file'
 run unpack ''
-unserved 'an empty name' "^'': No such file"
+unserved 'an empty name' "^'': there is no such file"
 "$python" -I -S "$table" pack - >out 2>err <&-
 status=$?
 unserved 'standard input is closed' 'standard input is closed'
@@ -300,5 +305,119 @@ unserved 'standard input is closed' 'standard input is closed'
 "$python" -I -S "$table" pack known.table 2>err >&-
 status=$?
 unserved 'standard output is closed' 'standard output is closed'
+
+# ---- Files are not written over ----
+
+# kept NAME PATTERN FILE COPY: the last run said so with status 2, and the file is as it was.
+kept() {
+    unserved "$1" "$2"
+    cmp -s "$3" "$4"
+    verdict "$1: it is as it was" $?
+}
+cp known.table mine.table
+cp known.bin mine.bin
+run pack mine.table mine.table
+kept 'pack over its own text' 'mine\.table: is read from' mine.table known.table
+run pack --force mine.table ./mine.table
+kept 'pack over its own text, by force' 'mine\.table: is read from' mine.table known.table
+ln -s mine.table same.table
+ln mine.table twin.table
+run pack --force mine.table same.table
+kept 'pack over its own text, by a link' 'same\.table: is read from' mine.table known.table
+run pack --force mine.table twin.table
+kept 'pack over its own text, by another name' 'twin\.table: is read from' mine.table known.table
+run unpack --force mine.bin mine.bin
+kept 'unpack over its own file' 'mine\.bin: is read from' mine.bin known.bin
+run unpack mine.bin mine.table
+kept 'unpack over a text' 'mine\.table: exists' mine.table known.table
+run pack spaces.table mine.bin
+kept 'pack over another file' 'mine\.bin: exists' mine.bin known.bin
+run unpack --names mine.table --force mine.bin mine.table
+kept 'unpack over the text with its names' 'mine\.table: is read from' mine.table known.table
+run unpack --force mine.bin target.table
+[ $status -eq 0 ] && "$table" pack target.table 2>/dev/null | cmp -s - known.bin
+verdict 'unpack by force' $?
+chmod 600 target.bin
+run pack none.table --force target.bin
+[ $status -eq 0 ] && cmp -s target.bin none.bin && [ "$(stat -c %a target.bin)" = 600 ]
+verdict 'pack by force' $?
+run pack none.table new.bin
+[ $status -eq 0 ] && [ "$(stat -c %a new.bin)" = "$(printf '%o' $((0666 & ~$(umask))))" ]
+verdict 'a new file has the rights of any new file' $?
+run pack known.table /dev/null
+[ $status -eq 0 ] && [ -c /dev/null ]
+verdict 'what is no file may be written' $?
+run pack known.table /dev/full
+unserved 'a place without room' 'No space left'
+[ -z "$(find . -name '.desk-*')" ]
+verdict 'nothing is left behind' $?
+
+# ---- Names ----
+
+cat >names.table <<'TEXT'
+state idle 0
+state übertragung 1   # letters of any script
+input отправить 3
+input 送信 3
+output use_map 3
+letter both 7
+states 2 initial idle
+idle -> übertragung input 送信 output use_map (1,2] delay 3
+übertragung -> 0 input both output both (1,2] delay 3
+TEXT
+printf 'states 2 initial 0\n0 -> 1 input 3 output 3 (1,2] delay 3\n1 -> 0 input 7 output 7 (1,2] delay 3\n' >plain.table
+"$table" pack names.table named.bin && "$table" pack plain.table | cmp -s - named.bin
+verdict 'names of inputs, outputs and states' $?
+run unpack named.bin --names names.table
+cp out kept.table
+[ $status -eq 0 ] && "$table" pack kept.table | cmp -s - named.bin &&
+    grep -q '^idle        -> übertragung  input 送信' kept.table && grep -q '^states 2 initial idle' kept.table &&
+    [ "$(head -n 6 kept.table | sort)" = "$(head -n 6 names.table | sed 's/ *#.*//' | sort)" ]
+verdict 'unpack with names' $?
+run unpack known.bin --names bad.table
+[ $status -eq 1 ] && [ ! -s out ]
+verdict 'unpack with the names of a bad text' $?
+run pack names.table --names names.table
+[ $status -eq 2 ] && [ ! -s out ] && grep -q 'belongs to unpack' err
+verdict 'names are for unpacking' $?
+# Names stand in the text in one form or the other: é as one character or as two.
+printf 'input caf\xc3\xa9 1\nstates 1 initial 0\n0 -> 0 input cafe\xcc\x81 output 1 (1,2] delay 3\n' >forms.table
+run pack forms.table
+[ $status -eq 0 ]
+verdict 'a name in two forms of Unicode' $?
+printf 'letter state 5\nletter stop 6\nstates 1 initial 0\n0 -> 0 input state output stop (1,2] delay 3\n' >old.table
+run pack old.table
+[ $status -eq 0 ] && [ ! -s err ]
+verdict 'an old text with a letter that is called state' $?
+bad 4 "'a' names an input (line 1), no output" <<<$'input a 1\noutput b 2\nstates 1 initial 0\n0 -> 0 input a output a (1,2] delay 3'
+bad 4 "'b' names an output (line 2), no input" <<<$'input a 1\noutput b 2\nstates 1 initial 0\n0 -> 0 input b output a (1,2] delay 3'
+bad 3 "'idle' names a state (line 1), no input" <<<$'state idle 0\nstates 1 initial 0\n0 -> 0 input idle output 1 (1,2] delay 3'
+bad 2 "'a' was given on line 1" <<<$'input a 1\nletter a 2\nstates 1 initial 0'
+bad 1 'the states are 0 to 1' <<<$'state idle 2\nstates 2 initial 0'
+bad 1 "'input' has its own meaning" <<<$'state input 0\nstates 2 initial 0'
+bad 2 "no line above gives a state the name 'idle'" <<<$'\nstates 2 initial idle'
+bad 1 'NO-BREAK SPACE' < <(printf 'states\xc2\xa01 initial 0\n')
+bad 2 'RIGHTWARDS ARROW' < <(printf 'states 1 initial 0\n0 \xe2\x86\x92 0 input 1 output 1 (1,2] delay 3\n')
+
+# All that is wrong is told at once, and what rests on a bad line is not told again.
+cat >all.table <<'TEXT'
+letter a 256
+states 2 initial 5
+0 -> 1 input a output 2 (5,2] delay 40
+0 -> 7 input b output 2 (0,2] delay 0
+0 => 1
+0 -> 1 input 1 output 2 (5,6] delay 40
+0 -> 1 input 1 output 2 (5,6] delay 40
+TEXT
+run pack all.table
+sed 's/^all\.table:\([0-9]*\):.*/\1/' err | tr '\n' ' ' | grep -qx '1 2 4 5 7 '
+verdict 'all that is wrong, at once' $?
+printf '0 -> 1 input 1 output 1 (1,2] delay 1\n0 -> 7 input 256 output 2 (0,2] delay 0\nstates 2 initial 0\n' >early.table
+run pack early.table
+[ "$(grep -c '^early\.table:1: ' err)" -eq 1 ] && [ "$(grep -c '^early\.table:2: ' err)" -eq 3 ] && [ "$(wc -l <err)" -eq 4 ]
+verdict 'all that is wrong with one line' $?
+{ echo 'states 1 initial 0'; yes 'no' | head -n 1000; } | { "$table" pack - >out 2>err; status=$?; }
+[ "$status" -eq 1 ] && [ "$(wc -l <err)" -eq 101 ] && tail -n 1 err | grep -q '900 more'
+verdict 'too many are counted' $?
 
 finish

@@ -1,0 +1,35 @@
+"""What is judged: a text or a table file, and how its transitions are named to the reader."""
+
+from desk import files, tables, texts
+
+
+class Source:
+    """A table in either form. `data` is its file, or None: a text that no file can say."""
+
+    def __init__(self, given):
+        self.name, self.hint = given.name, given.hint
+        self.text = None if given.text is None else texts.Text(given.text)
+        if self.text is None:
+            self.data = given.data
+        else:
+            table = self.text.table()
+            self.data = None if table is None else tables.write_file(table)
+
+    @property
+    def faults(self):
+        return self.text.faults if self.text else []
+
+    def told(self):
+        return self.text.told(self.name) if self.text else []
+
+    def place(self, offset):
+        """Where a refused record stands."""
+        return f"{self.name}:{self.text.line_at(offset)}" if self.text else f"{self.name}: at byte {offset}"
+
+    def table(self):
+        """The table, once the program has not refused it."""
+        return self.text.table() if self.text else tables.read_file(self.data)
+
+
+def take(path):
+    return Source(files.take(path))
