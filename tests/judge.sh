@@ -371,7 +371,7 @@ verdict 'standard error is closed: a refusal' $?
 run source.bin source.bin
 trouble '\./judge \[OPTIONS\] \[FILE\]' 'two files'
 run --nothing
-trouble 'unrecognized.*--nothing' 'an option that is not there'
+trouble '^--nothing: there is no such option' 'an option that is not there'
 for option in -h --help; do
     run "$option"
     [ "$status" -eq 0 ] && [ ! -s err ] && grep -q '\./judge \[OPTIONS\] \[FILE\]' out

@@ -374,7 +374,8 @@ cp out kept.table
     grep -q '^idle        -> übertragung  input 送信' kept.table && grep -q '^states 2 initial idle' kept.table &&
     [ "$(head -n 6 kept.table | sort)" = "$(head -n 6 names.table | sed 's/ *#.*//' | sort)" ]
 verdict 'unpack with names' $?
-run unpack known.bin --names bad.table
+echo nonsense >nonsense.table
+run unpack known.bin --names nonsense.table
 [ $status -eq 1 ] && [ ! -s out ]
 verdict 'unpack with the names of a bad text' $?
 run pack names.table --names names.table

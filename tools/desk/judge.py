@@ -48,9 +48,9 @@ def tell_refusal(source, answer):
         files.say(f"{source.name}: taken for a table file, not for a text: {source.hint}")
 
 
-def serve(call):
-    """Judges what the call names; the status."""
-    source = sources.take(call.file)
+def serve(call, path):
+    """Judges what stands there; the status."""
+    source = sources.take(path)
     if source.data is None:
         for line in source.told():
             files.say(line)
@@ -66,13 +66,10 @@ def serve(call):
 
 def main(arguments):
     files.hold_standard()
-    parser = calls.Parser(__doc__, answers.TROUBLE)
-    parser.add_argument("--explain", action="store_true")
-    parser.add_argument("--widths", action="store_true")
-    parser.add_argument("--page", metavar="OUT.html")
-    parser.add_argument("file", nargs="?", default="-")
+    script = calls.Script(__doc__, answers.TROUBLE, flags=("explain", "widths"), valued=("page",))
     try:
-        return serve(parser.taken(arguments))
+        call = script.taken(arguments, 0, 1)
+        return serve(call, call.words[0] if call.words else "-")
     except files.Trouble as trouble:
         files.say(f"judge: {trouble}")
         return answers.TROUBLE
