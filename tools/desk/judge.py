@@ -27,7 +27,7 @@ if sys.version_info < (3, 9):
 sys.dont_write_bytecode = True
 sys.path.insert(0, os.path.dirname(os.path.dirname(os.path.realpath(__file__))))
 
-from desk import answers, calls, files, program, sources  # noqa: E402
+from desk import answers, calls, explain, files, page, program, sources, widths  # noqa: E402
 
 
 def judged(source, judge):
@@ -43,7 +43,7 @@ def tell_refusal(source, answer):
     for line in source.told():
         files.say(line)
     number, offset = answer.numbers
-    files.say(f"{source.place(offset)}: {answers.REFUSALS[number]}")
+    files.say(f"{source.place(offset)}: refused {number}: {answers.REFUSALS[number]}")
     if source.hint:
         files.say(f"{source.name}: taken for a table file, not for a text: {source.hint}")
 
@@ -54,14 +54,39 @@ def serve(call, path):
     if source.data is None:
         for line in source.told():
             files.say(line)
+        put_page(call, path, source, None, None)
         return answers.VERDICTS["refused"].status
     judge = program.Program()
     judge.ready()
     answer = judged(source, judge)
-    files.put_out(answer.raw)
+    wide = widths.found(judge, source.table()) if call.widths and answer.word == "strict" else None
+    files.put_out(printed(call, source, answer, wide))
     if answer.word == "refused":
         tell_refusal(source, answer)
+    elif call.widths and wide is None:
+        files.say(f"{source.name}: the table must be strict first, before its guards can be widened")
+    put_page(call, path, source, answer, wide)
     return answers.status(answer)
+
+
+def put_page(call, path, source, answer, wide):
+    """Writes the page, if one is asked for; over an earlier page, and over nothing else."""
+    if call.page is not None:
+        files.store(call.page, page.written(source, answer, wide), [path], page.is_page)
+
+
+def printed(call, source, answer, wide):
+    """What goes to standard output."""
+    if wide is None:
+        words = [""] + explain.explained(source, answer) if call.explain else []
+        return answer.raw + lines_of(words)
+    if call.explain:
+        return lines_of([line for width in wide for line in widths.explained(source, width)])
+    return lines_of([widths.line(width) for width in wide])
+
+
+def lines_of(lines):
+    return "".join(line + "\n" for line in lines).encode("utf-8")
 
 
 def main(arguments):

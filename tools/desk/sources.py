@@ -26,9 +26,30 @@ class Source:
         """Where a refused record stands."""
         return f"{self.name}:{self.text.line_at(offset)}" if self.text else f"{self.name}: at byte {offset}"
 
+    def why(self):
+        """Why the file is refused, closer than its number says."""
+        if self.text:
+            return self.told()
+        try:
+            tables.read_file(self.data)
+            return []
+        except tables.Refused as refused:
+            return [f"{self.place(refused.args[1])}: {refused.args[2]}"]
+
     def table(self):
         """The table, once the program has not refused it."""
         return self.text.table() if self.text else tables.read_file(self.data)
+
+    def written(self, number):
+        """A transition's states and letters, as the text has them."""
+        return self.text.written[number] if self.text else texts.written_by(texts.Names(), self.table().transitions[number])
+
+    def line(self, number):
+        """A transition as a line of a text."""
+        return texts.one_line(self.written(number), self.table().transitions[number])
+
+    def where(self, number):
+        return f"transition {number}" + (f", line {self.text.lines[number]}" if self.text else "")
 
 
 def take(path):

@@ -1,0 +1,96 @@
+"""Answers in words, for the integrator: lines of his text, names, what makes the answer so."""
+
+from desk import answers, picture, tables
+from desk.timing import Fork, Turn, ticks
+
+MOST_LISTED = 12  # lines of a list; the rest is counted
+
+
+def listed(lines):
+    """A list's lines, shortened with a count."""
+    if len(lines) <= MOST_LISTED:
+        return lines
+    half = MOST_LISTED // 2
+    return lines[:half] + [f"  .. {len(lines) - MOST_LISTED} more .."] + lines[-half:]
+
+
+def counted(numbers):
+    """Each number once, in order, with how often it stands there."""
+    return [(number, numbers.count(number)) for number in dict.fromkeys(numbers)]
+
+
+def transition_line(source, lead, number):
+    return f"  {lead}  {source.where(number)}:  {source.line(number)}"
+
+
+def of_turning(source, answer):
+    turn = Turn(answer, source.table())
+    k, m, d, u, v = turn.k, turn.m, turn.d, turn.u, turn.v
+    first, last = source.written(turn.first).output, source.written(turn.last).output
+    steps = f"step {m}" if m == k + 1 else f"steps {k + 1} to {m}"
+    lines = [f"The responses of steps {k} and {m} change places, though the requests come in one order:", "",
+             transition_line(source, f"step {k}", turn.first),
+             transition_line(source, f"step {m}", turn.last), "",
+             f"  D = {turn.steps[k - 1].d} - {turn.steps[m - 1].d} = {d}: step {m} responds so many ticks quicker than step {k}.",
+             f"  U = {u}, V = {v}: its request comes more than {u} and at most {v} ticks later, the sums over {steps}:"]
+    lines += listed([f"    {source.where(number)}: ({t.u},{t.v}]" + (f", {times} times" if times > 1 else "")
+                     for number, times in counted(turn.between) for t in [source.table().transitions[number]]])
+    lines += [f"  U < D <= V, that is {u} < {d} <= {v}: with less than {d} ticks between the two requests step {m} responds first,",
+              f"  output {last}; with {d} ticks or more step {k} does, output {first}.", "",
+              f"This pair stops turning if U is at least {d} (now {u}), or if V is below {d} (now {v}). Which of them, and by which",
+              "guard or delay, is your choice. Judge again then: another pair may turn."]
+    return lines
+
+
+def of_split(source, answer):
+    fork = Fork(answer, source.table())
+    low, high = fork.shared
+    lines = ["Two transitions of one state answer one request:", "",
+             transition_line(source, "first ", fork.i), transition_line(source, "second", fork.j), "",
+             f"  Both guards hold the gaps in ({low},{high}]: more than {low} and at most {high} ticks. Guards that only touch are no split.",
+             "", "The word that both answer:", ""]
+    requests = [f"  step {number}  request {source.written(taken).input} at {ticks(at)} ticks: {source.where(taken)}"
+                for number, (taken, at) in enumerate(zip(fork.trace, fork.timing.arrivals), 1)]
+    requests[-1] += f", or {source.where(fork.j)}"
+    return lines + listed(requests)
+
+
+def of_strict(source, answer):
+    table = source.table()
+    lost = tables.unreached(table)
+    count = len(table.transitions)
+    lines = ["This holds for every timing that the table accepts, to any fraction of a tick, and for traces of any length.",
+             f"{count} transition{'' if count == 1 else 's'}, {len(tables.reached_states(table))} of {table.states} "
+             f"state{'' if table.states == 1 else 's'} can be reached."]
+    if lost:
+        lines += ["These transitions can't be reached, and were not judged:"]
+        lines += listed([transition_line(source, "", number) for number in lost])
+    return lines
+
+
+def of_refused(source, answer):
+    number, offset = answer.numbers
+    closer = source.why() or [f"{source.place(offset)}: {answers.REFUSALS[number]}"]
+    return closer + ["The rule: " + answers.RULES[number]]
+
+
+OF = {"strict": of_strict, "split": of_split, "turning": of_turning, "refused": of_refused}
+
+
+def heading(answer):
+    """The answer in one sentence."""
+    return f"{answer.word.capitalize()}: {answers.VERDICTS[answer.word].means}."
+
+
+def words(source, answer):
+    """The answer in words, without a picture."""
+    return [heading(answer)] + OF[answer.word](source, answer)
+
+
+def explained(source, answer):
+    """The lines that --explain adds."""
+    lines = words(source, answer)
+    if answer.word == "turning":
+        drawn = picture.drawn(Turn(answer, source.table()))
+        lines += [""] + ["  " + line if line else "" for line in drawn]
+    return lines
