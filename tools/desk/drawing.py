@@ -57,9 +57,10 @@ class Panel:
         low, high = (self.x(time) for time in row.guard)
         parts = [text(10, y + 22, cut(row.label, LABEL), kind=row.kind),
                  f'<rect class="guard" x="{low:.1f}" y="{y + 4}" width="{max(high - low, 1):.1f}" height="7"/>']
+        head = min(7, max(due - at, 3))
         parts += [f'<line class="request {row.kind}" x1="{at:.1f}" y1="{y + 1}" x2="{at:.1f}" y2="{y + 30}"/>',
                   f'<line class="response {row.kind}" x1="{at:.1f}" y1="{y + 22}" x2="{due:.1f}" y2="{y + 22}"/>',
-                  f'<path class="head {row.kind}" d="M{due:.1f} {y + 22} l-7 -4 v8 z"/>',
+                  f'<path class="head {row.kind}" d="M{due:.1f} {y + 22} l-{head:.1f} -4 v8 z"/>',
                   text(at - 4, y + 27, ticks(row.arrival), "end", row.kind),
                   text(due + 5, y + 27, ticks(row.due), "start", row.kind)]
         return parts
@@ -104,13 +105,18 @@ def shown_steps(first, last):
     """Runs of steps to show, with None where some are left out."""
     if last - first < MOST_ROWS:
         return list(range(first, last + 1))
-    half = MOST_ROWS // 2
-    return list(range(first, first + half)) + [None] + list(range(last - half + 1, last + 1))
+    return list(range(first, first + 3)) + [None] + list(range(last - 2, last + 1))
 
 
 def step_label(source, number, transition):
+    def named(word, letter):
+        return f"{word} {letter}" if letter.isdigit() else letter
+
     written = source.written(transition)
-    return f"{number}: {written.input} → {written.output}"
+    whole = f"{number}: {named('input', written.input)} → {named('output', written.output)}"
+    if cut(whole, LABEL - 3) == whole:
+        return whole
+    return f"{number}: {cut(written.input, 14)} → {cut(written.output, 14)}"
 
 
 def turn_rows(source, turn, timing, first):
@@ -146,7 +152,7 @@ def of_turning(source, turn):
         end = max(ends) if shared else end
         start = max(earlier, request - (end - request) // 3)
         first = turn.k - 1 if turn.k > 1 and start == earlier else turn.k
-        before = f", after {first - 1} steps that are alike in both" if first > 1 else ""
+        before = f" from step {first} on; up to there both are alike" if first > 1 else ""
         title = f"{timing.name} timing{before}" + ("" if shared else " (on a scale of its own)")
         panels.append(Panel(start, end).drawn(title, turn_rows(source, turn, timing, first),
                                               f"{timing.name} timing: " + in_order(timing.order, (turn.k, turn.m))))
@@ -168,5 +174,5 @@ def of_split(source, fork):
     start = timing.arrivals[numbers[0] - 2] if numbers and numbers[0] > 1 else 0
     end = max(max(row.due for row in rows), max(row.guard[1] for row in rows[-2:]))
     low, high = fork.shared
-    title = "the word" + (f", after {numbers[0] - 1} steps" if numbers and numbers[0] > 1 else "")
+    title = "the word" + (f" from step {numbers[0]} on" if numbers and numbers[0] > 1 else "")
     return [Panel(start, end).drawn(title, rows, f"both guards of step {last} are open in ({low},{high}] after the request before")]

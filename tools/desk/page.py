@@ -14,13 +14,11 @@ pre { white-space: pre-wrap; font: 13px/1.45 ui-monospace, monospace }
 svg { max-width: 100%; height: auto; display: block; margin: .6rem 0 1.2rem }
 svg text { font: 12px system-ui, sans-serif; fill: #222 } svg text.title { font-weight: bold } svg text.foot { font-style: italic }
 svg text.first, svg text.second { font-weight: bold } svg text.first { fill: #a1001a } svg text.second { fill: #00479e }
-.guard { fill: #ddd; stroke: #777; stroke-width: .8 } .shade { fill: #f4f4f4 } .axis { stroke: #444; stroke-width: 1 }
-text.axis, text.left-out { stroke: none }
+.guard { fill: #ddd; stroke: #777; stroke-width: .8 } .shade { fill: #f4f4f4 } line.axis { stroke: #444; stroke-width: 1 }
 .request { stroke: #444; stroke-width: 1.6 } .response { stroke: #666; stroke-width: 1.2 } .head { fill: #666 }
-.first { stroke: #a1001a } .second { stroke: #00479e } .head.first { fill: #a1001a } .head.second { fill: #00479e }
+line.first { stroke: #a1001a } line.second { stroke: #00479e } .head.first { fill: #a1001a } .head.second { fill: #00479e }
 line.first, line.second { stroke-width: 2.6 } line.response.second { stroke-dasharray: 7 3 }
-svg text { stroke: none }
-.due { stroke: #999; stroke-width: 1; stroke-dasharray: 2 3 } .left-out { stroke: #999; stroke-width: 3; stroke-dasharray: 2 5 }
+.due { stroke: #999; stroke-width: 1; stroke-dasharray: 2 3 } line.left-out { stroke: #999; stroke-width: 3; stroke-dasharray: 2 5 }
 table { border-collapse: collapse; font-size: 13px } th, td { text-align: left; padding: .15rem .6rem; border-bottom: 1px solid #ddd }
 td.number, th.number { text-align: right } tr.trace td { font-weight: bold } tr.pair td { background: #f0f0f0; font-weight: bold }
 tr.lost td { color: #777; font-style: italic }
