@@ -51,10 +51,17 @@ def tried_one_by_one(table, number):
     return row[independent.U] - sum(lows) + 1, row[independent.V] + sum(highs) - 1
 
 
+def side_by_side(rng):
+    """Two guards of one input, with or without room between, and a step back."""
+    a, b, c, d = sorted(rng.sample(range(1, rng.choice((12, 60, 4000))), 4))
+    c = rng.choice((b, c))
+    return independent.Table(2, 0, [(0, 0, 1, 1, a, b, rng.randint(1, 9)), (0, 0, 2, 1, c, d, rng.randint(1, 9)),
+                                    (1, 0, 3, 0, *independent.guard_of(rng, 5, 5), rng.randint(1, 9))])
+
+
 def small_tables():
     """Strict tables whose ends are stopped by turning, by splits, by nothing; small and great bounds."""
-    shapes = (independent.shape_touching, independent.shape_tiny, independent.shape_pair, independent.shape_steady,
-              independent.shape_wide, independent.shape_chain)
+    shapes = (side_by_side, independent.shape_pair, independent.shape_wide, side_by_side, independent.shape_tiny)
     for seed in range(2000):
         rng = random.Random(f"widths {seed}")
         table = shapes[seed % len(shapes)](rng)

@@ -10,7 +10,7 @@ MARK = '<meta name="generator" content="sandgusset judge --page">'
 STYLE = """
 body { font: 15px/1.45 system-ui, sans-serif; color: #111; background: #fff; max-width: 60rem; margin: 2rem auto; padding: 0 1rem }
 h1 { font-size: 1.5rem; margin-bottom: .2rem } h2 { font-size: 1.1rem; margin-top: 2rem }
-pre { white-space: pre-wrap; font: 13px/1.45 ui-monospace, monospace }
+h1, p, pre, td { overflow-wrap: anywhere } pre { white-space: pre-wrap; font: 13px/1.45 ui-monospace, monospace }
 svg { max-width: 100%; height: auto; display: block; margin: .6rem 0 1.2rem }
 svg text { font: 12px system-ui, sans-serif; fill: #222 } svg text.title { font-weight: bold } svg text.foot { font-style: italic }
 svg text.first, svg text.second { font-weight: bold } svg text.first { fill: #a1001a } svg text.second { fill: #00479e }
@@ -20,7 +20,7 @@ line.first { stroke: #a1001a } line.second { stroke: #00479e } .head.first { fil
 line.first, line.second { stroke-width: 2.6 } line.response.second { stroke-dasharray: 7 3 }
 .due { stroke: #999; stroke-width: 1; stroke-dasharray: 2 3 } line.left-out { stroke: #999; stroke-width: 3; stroke-dasharray: 2 5 }
 table { border-collapse: collapse; font-size: 13px } th, td { text-align: left; padding: .15rem .6rem; border-bottom: 1px solid #ddd }
-td.number, th.number { text-align: right } tr.trace td { font-weight: bold } tr.pair td { background: #f0f0f0; font-weight: bold }
+th { white-space: nowrap } td.number, th.number { text-align: right } tr.trace td { font-weight: bold } tr.pair td { background: #f0f0f0; font-weight: bold }
 tr.lost td { color: #777; font-style: italic }
 @media print { body { margin: 0; max-width: none; font-size: 10pt } tr, svg { break-inside: avoid } }
 """
