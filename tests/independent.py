@@ -894,6 +894,53 @@ def shape_heavy(rng):
     return finish(rng, 32, 0, rows, shuffle=False)
 
 
+def summed(rng, lows, whole):
+    """Numbers of at most 4,095, each above its low one, with this sum; or None."""
+    numbers = [MAX_V] * len(lows)
+    spare = sum(numbers) - whole
+    places = list(range(len(lows)))
+    rng.shuffle(places)
+    for place in places:
+        less = min(spare, MAX_V - lows[place] - 1)
+        if place != places[-1] and rng.randrange(2):
+            less = rng.randint(0, less)
+        numbers[place] -= less
+        spare -= less
+    return numbers if spare == 0 else None
+
+
+def wrapping_chain(rng):
+    """Guards, and the difference of delays, of a pair whose sum of v (or of u) is a multiple of a power of two and little
+    more: of 65,536 ticks, or of 256, which is 65,536 parts. A judge that keeps 16 bits of it would take it for small."""
+    turn = rng.choice((65536, 65536, 256))
+    if rng.randrange(3):
+        us = [rng.choice((1, 1, 1, 2)) for _ in range(rng.randint(17, 40) if turn == 65536 else rng.randint(1, 9))]
+        difference = rng.randint(sum(us) + 1, MAX_D - 1)
+        vs = summed(rng, us, turn * rng.randint(1, len(us) * MAX_V // turn) + rng.randrange(difference))
+    else:
+        rest = rng.randrange(200)
+        us = summed(rng, [0] * (17 if turn == 65536 else rng.randint(1, 9)), turn + rest)
+        us = us and [min(u, MAX_V - 1) for u in us]
+        vs = us and [min(MAX_V, u + rng.randint(1, 9)) for u in us]
+        difference = rest + rng.randint(1, 9)
+    return None if vs is None else (list(zip(us, vs)), difference)
+
+
+def shape_wrapping(rng):
+    """A chain with sums beyond 16 bits; the steps between respond with the first, so that it alone spans the whole sum."""
+    found = None
+    while found is None:
+        found = wrapping_chain(rng)
+    guards, difference = found
+    dk, dm = delays(rng, difference)
+    rows = [[0, 1, *guard_of(rng, 4, 4), dk]]
+    for j, (u, v) in enumerate(guards, 1):
+        rows.append([j, j + 1, u, v, dm if j == len(guards) else dk])
+    if len(rows) >= MAX_STATES or rng.randrange(3) == 0:
+        return finish(rng, 1, 0, [[0, 0] + row[2:] for row in rows], shuffle=False)
+    return finish(rng, MAX_STATES, 0, rows, shuffle=False)
+
+
 SMALL = (shape_tiny, shape_tiny, shape_tiny, shape_pair, shape_pair, shape_pair, shape_ways, shape_ways, shape_ways,
          shape_steady, shape_steady, shape_dense, shape_chain, shape_touching, shape_wide, shape_loop)
 
@@ -1086,6 +1133,16 @@ def case_judge_heavy(rng):
     return Case(JUDGE, [write_file(shape_heavy(rng))] + good_rooms(rng))
 
 
+def case_judge_wrapping(rng):
+    return Case(JUDGE, [write_file(shape_wrapping(rng))] + good_rooms(rng))
+
+
+def case_trace_wrapping(rng):
+    table = shape_wrapping(rng)
+    trace = list(range(len(table.rows)))
+    return Case(JUDGE_TRACE, [write_file(table), struct.pack("<%dH" % len(trace), *trace), rng.randbytes(8 * len(trace))])
+
+
 def case_judge_rooms(rng):
     data = damaged_file(rng) if rng.randrange(4) == 0 else write_file(any_table(rng))
     return Case(JUDGE, [data, room(rng, 270, 2), room(rng, 540, 4)])
@@ -1166,7 +1223,7 @@ def case_rewrite_noise(rng):
 
 KINDS = [(case_judge, 300), (case_judge_many, 12), (case_judge_full, 6), (case_judge_heavy, 2), (case_judge_rooms, 60),
          (case_trace, 200), (case_trace_wrong, 80), (case_replay, 160), (case_replay_wrong, 160), (case_rewrite, 60),
-         (case_rewrite_damaged, 160), (case_rewrite_noise, 30)]
+         (case_rewrite_damaged, 160), (case_rewrite_noise, 30), (case_judge_wrapping, 12), (case_trace_wrapping, 12)]
 
 
 def random_case(seed, index):

@@ -20,7 +20,7 @@ line.first { stroke: #a1001a } line.second { stroke: #00479e } .head.first { fil
 line.first, line.second { stroke-width: 2.6 } line.response.second { stroke-dasharray: 7 3 }
 .due { stroke: #999; stroke-width: 1; stroke-dasharray: 2 3 } line.left-out { stroke: #999; stroke-width: 3; stroke-dasharray: 2 5 }
 table { border-collapse: collapse; font-size: 13px } th, td { text-align: left; padding: .15rem .6rem; border-bottom: 1px solid #ddd }
-th { white-space: nowrap } td.number, th.number { text-align: right } tr.trace td { font-weight: bold } tr.pair td { background: #f0f0f0; font-weight: bold }
+th, td.whole { white-space: nowrap } td.number, th.number { text-align: right } tr.trace td { font-weight: bold } tr.pair td { background: #f0f0f0; font-weight: bold }
 tr.lost td { color: #777; font-style: italic }
 @media print { body { margin: 0; max-width: none; font-size: 10pt } tr, svg { break-inside: avoid } }
 """
@@ -64,7 +64,7 @@ def table_rows(source, witness, wide):
         note = "can't be reached" if number in lost else "◆ " * (number in pair) + runs(steps.get(number, []))
         cells = [("number", str(number)), ("number", str(source.text.lines[number]) if source.text else ""),
                  ("", f"{written.departure} → {written.arrival}"), ("", written.input), ("", written.output),
-                 ("", f"({t.u},{t.v}]"), ("number", str(t.d)), ("", note)]
+                 ("whole", f"({t.u},{t.v}]"), ("number", str(t.d)), ("", note)]
         if wide is not None:
             width = ends.get(number)
             cells += [("number", str(width.low.value) if width else ""), ("number", str(width.high.value) if width else "")]
