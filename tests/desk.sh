@@ -34,6 +34,10 @@ for name in source-trace download-wide split touching; do
     head -n "$(wc -l <out)" "$root/tests/desk/$name.out" | cmp -s - out
     verdict "explained: document 01's lines come first: $name" $?
 done
+# What the README shows is what is printed; .. stands for lines that it leaves out.
+sed -n '/^    \.\/judge --explain/,/^Write your own/s/^    //p' "$root/README.md" | sed '1d; /^ *$/d; /^ *\.\.$/d' >shown
+[ "$(wc -l <shown)" -ge 12 ] && ! grep -vxFf "$root/tests/desk/download-wide.out" shown
+verdict 'what the README shows' $?
 run "$root/examples/download-wide.bin" --explain
 cmp -s out "$root/tests/desk/download-wide-file.out" && [ "$status" -eq 1 ]
 verdict 'explained as stored: a table file has no lines and no names' $?

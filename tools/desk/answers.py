@@ -46,12 +46,12 @@ def understood(raw):
     """The answer that was printed, taken apart."""
     try:
         first, *lines = raw.decode("ascii").splitlines()
-        word, *others = first.split()
-        numbers = [int(other) for other in others if other != "at"]
+        word = next(word for word in VERDICTS if (first + " ").startswith(word + " "))
+        numbers = [int(other) for other in first[len(word):].split() if other != "at"]
         rows = [[int(number) for number in line.split()] for line in lines]
         if any(len(row) != VERDICTS[word].fields for row in rows):
             raise ValueError
-    except (ValueError, KeyError):
+    except (ValueError, StopIteration):
         raise Trouble(f"the program printed what no judge prints: {raw[:80]!r}") from None
     return Answer(raw, word, numbers, rows)
 

@@ -76,7 +76,7 @@ def open_input(path):
     except PermissionError:
         raise Trouble(f"{path}: may not be read") from None
     except (OSError, ValueError) as error:
-        raise Trouble(f"{shown(path)}: {getattr(error, 'strerror', error)}") from None
+        raise as_trouble(path, error) from None
     if stat.S_ISDIR(os.fstat(number).st_mode):
         raise Trouble(f"{path}: a directory is no table")
     return number
@@ -201,17 +201,34 @@ def write_over(path, data):
         raise
 
 
-def store(path, data, sources, may_replace):
-    """Writes a file, never over a source, over another regular file only if that may be replaced."""
+def is_special(path):
+    """Something that exists and is no regular file: it may be written to."""
+    return os.path.exists(path) and not os.path.isfile(path)
+
+
+def as_trouble(path, error):
+    return Trouble(f"{shown(path)}: {getattr(error, 'strerror', None) or error}")
+
+
+def check_target(path, sources, may_replace):
+    """A file is never written over a source, and over another regular file only if that may be replaced."""
     if any(source != "-" and same_file(path, source) for source in sources):
         raise Trouble(f"{path}: is read from, and is not written over")
     try:
-        if os.path.exists(path) and not os.path.isfile(path):
+        if os.path.isfile(path) and not may_replace(path):
+            raise Trouble(f"{path}: exists, and is not written over")
+    except (OSError, ValueError) as error:
+        raise as_trouble(path, error) from None
+
+
+def store(path, data, sources, may_replace):
+    """Writes a file, if it may be written."""
+    check_target(path, sources, may_replace)
+    try:
+        if is_special(path):
             with open(path, "wb") as file:
                 file.write(data)
-            return
-        if os.path.exists(path) and not may_replace(path):
-            raise Trouble(f"{path}: exists, and is not written over")
-        write_over(path, data)
+        else:
+            write_over(path, data)
     except (OSError, ValueError) as error:
-        raise Trouble(f"{shown(path)}: {getattr(error, 'strerror', None) or error}") from None
+        raise as_trouble(path, error) from None

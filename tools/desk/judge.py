@@ -50,6 +50,8 @@ def tell_refusal(source, answer):
 
 def serve(call, path):
     """Judges what stands there; the status."""
+    if call.page is not None:
+        files.check_target(call.page, [path], page.is_page)  # before the long part
     source = sources.take(path)
     if source.data is None:
         for line in source.told():

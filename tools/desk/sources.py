@@ -14,6 +14,7 @@ class Source:
         else:
             table = self.text.table()
             self.data = None if table is None else tables.write_file(table)
+        self.kept = None  # the table, once it was asked for
 
     @property
     def faults(self):
@@ -38,7 +39,9 @@ class Source:
 
     def table(self):
         """The table, once the program has not refused it."""
-        return self.text.table() if self.text else tables.read_file(self.data)
+        if self.kept is None:
+            self.kept = self.text.table() if self.text else tables.read_file(self.data)
+        return self.kept
 
     def written(self, number):
         """A transition's states and letters, as the text has them."""
