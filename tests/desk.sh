@@ -78,6 +78,17 @@ run --explain <<<'states 2 initial nowhere'
 [ "$status" -eq 2 ] && [ ! -s out ] && grep -q '^standard input:1: ' err
 verdict 'explained: a text without a file' $?
 
+# Names in any locale, and a file's name that is no UTF-8.
+printf 'state größe 0\nstates 1 initial 0\n\n0 -> größe input 0 output 送 (1,2] delay 3\n' >bad.table
+LC_ALL=C timeout 60 "$judge" bad.table >out 2>err
+[ $? -eq 2 ] && grep -q '^bad\.table:4: ' err && ! grep -q Traceback err
+verdict 'a text with names, in the plainest locale' $?
+head -c 20 "$root/examples/split.bin" >$'\xff.bin'
+run --explain --page page.html $'\xff.bin'
+[ "$status" -eq 2 ] && says '^refused 1 at 8$' '^The rule: ' && ! grep -q Traceback err && [ -s page.html ]
+verdict 'a name that is no UTF-8' $?
+rm page.html
+
 # Every picture tells the truth: for random turning tables the responses stand in document 01's order.
 cat >pictures.py <<'PYTHON'
 import random

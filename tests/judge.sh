@@ -326,7 +326,7 @@ verdict 'bad text: two lines, the second' $?
 # Faults that a file can have are judged by the program, and standard error has the line.
 printf 'states 2 initial 0\n0 -> 1 input 0 output 0 (1,2] delay 1\n\n0 -> 1 input 0 output 0 (1,70000] delay 1\n' |
     answers 'text: a number out of range' 'refused 4 at 26'
-grep -q '^standard input:4: guard (1,70000\]' err && grep -q '^standard input:4: a number outside its range' err
+grep -q '^standard input:4: guard (1,70000\]' err && grep -q '^standard input:4: refused 4: a number outside its range' err
 verdict 'text: a number out of range, its line' $?
 printf '0 -> 1 input 0 output 0 (1,2] delay 1\n%.0s' 1 2 | sed '1i states 2 initial 0' | answers 'text: equal transitions' 'refused 5 at 26'
 grep -q '^standard input:3: equal to transition 0 on line 2' err
@@ -336,7 +336,7 @@ grep -q '^standard input:258: more than 256' err
 verdict 'text: a 257th transition, its line' $?
 answers 'text: no states' 'refused 4 at 0' <<<'states 0 initial 0'
 answers 'a refusal in words' 'refused 1 at 26' <cut.bin
-grep -q '^standard input: at byte 26: a record is cut off' err
+grep -q '^standard input: at byte 26: refused 1: a record is cut off' err
 verdict 'a refusal in words: standard error' $?
 
 # ---- The script ----

@@ -53,7 +53,7 @@ verdict 'pack: comments in any encoding' $?
 
 "$table" pack - <known.table >out 2>err && cmp -s out known.bin
 verdict 'pack: standard input' $?
-"$table" unpack - <known.bin 2>err | "$table" pack - >out && cmp -s out known.bin
+"$table" unpack - <known.bin 2>err | "$table" pack - >out 2>err && cmp -s out known.bin
 verdict 'unpack and pack: a pipe' $?
 run pack known.table target.bin
 [ $status -eq 0 ] && [ ! -s out ] && cmp -s target.bin known.bin

@@ -88,7 +88,8 @@ def printed(call, source, answer, wide):
 
 
 def lines_of(lines):
-    return "".join(line + "\n" for line in lines).encode("utf-8")
+    """A file's name may hold bytes that are no UTF-8."""
+    return "".join(line + "\n" for line in lines).encode("utf-8", "surrogateescape")
 
 
 def main(arguments):

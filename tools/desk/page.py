@@ -20,7 +20,8 @@ line.first { stroke: #a1001a } line.second { stroke: #00479e } .head.first { fil
 line.first, line.second { stroke-width: 2.6 } line.response.second { stroke-dasharray: 7 3 }
 .due { stroke: #999; stroke-width: 1; stroke-dasharray: 2 3 } line.left-out { stroke: #999; stroke-width: 3; stroke-dasharray: 2 5 }
 table { border-collapse: collapse; font-size: 13px } th, td { text-align: left; padding: .15rem .6rem; border-bottom: 1px solid #ddd }
-th, td.whole { white-space: nowrap } td.number, th.number { text-align: right } tr.trace td { font-weight: bold } tr.pair td { background: #f0f0f0; font-weight: bold }
+th, td.whole { white-space: nowrap } td.number, th.number { text-align: right }
+tr.trace td { font-weight: bold } tr.pair td { background: #f0f0f0; font-weight: bold }
 tr.lost td { color: #777; font-style: italic }
 @media print { body { margin: 0; max-width: none; font-size: 10pt } tr, svg { break-inside: avoid } }
 """
@@ -117,7 +118,7 @@ def written(source, answer, wide):
     return "\n".join(["<!DOCTYPE html>", '<html lang="en"><head><meta charset="utf-8">', MARK,
                       '<meta name="viewport" content="width=device-width">', element("title", title),
                       f"<style>{STYLE}</style></head><body>", element("p", source.name)]
-                     + parts_of(source, answer, wide) + ["</body></html>", ""]).encode("utf-8")
+                     + parts_of(source, answer, wide) + ["</body></html>", ""]).encode("utf-8", "replace")
 
 
 def is_page(path):

@@ -13,6 +13,7 @@ NUMBER = re.compile(r"[0-9]+")
 LINE_END = re.compile(r"\r\n|\r|\n")
 
 LISTS = ("input", "output", "state")  # of names
+ARTICLE = {"input": "an input", "output": "an output", "state": "a state"}
 GIVES = {"input": ("input",), "output": ("output",), "letter": ("input", "output"), "state": ("state",)}
 BEGINS = ("states",) + tuple(GIVES)  # words that begin a line; a state's number or name does too
 WORDS = ("states", "initial", "letter", "input", "output", "delay")  # no letter has such a name, no state either
@@ -102,11 +103,10 @@ class Names:
     def number(self, kind, word, what):
         name = unicodedata.normalize("NFC", word)
         if name not in self.given[kind]:
-            others = [other for other in LISTS if name in self.given[other]]
-            if others:
-                line = self.given[others[0]][name][1]
-                raise BadLine(f"{what}: {word!r} names an {others[0]} (line {line}), no {kind}"
-                              .replace("an state", "a state"))
+            for other in LISTS:
+                if name in self.given[other]:
+                    line = self.given[other][name][1]
+                    raise BadLine(f"{what}: {word!r} names {ARTICLE[other]} (line {line}), no {kind}")
             raise BadLine(f"{what}: no line above gives {'a state' if kind == 'state' else 'a letter'} the name {word!r}")
         number = self.given[kind][name][0]
         if number is None:

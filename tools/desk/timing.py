@@ -51,4 +51,3 @@ class Fork:
         self.timings = [self.timing]
         one, two = table.transitions[self.i], table.transitions[self.j]
         self.shared = max(one.u, two.u), min(one.v, two.v)
-        self.other_due = self.timing.arrivals[-1] + PARTS * two.d
