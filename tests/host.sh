@@ -4,6 +4,7 @@
 #   tests/host.sh ARCHIVE
 #
 # The last line is 'N passed, 0 failed'.
+. "$(dirname "$0")/../tools/help.sh"
 archive=$(readlink -f "${1:?the library\'s archive is needed}") || exit 2
 . "$(dirname "$0")/common.sh"
 . "$root/tests/x86.sh"
