@@ -9,6 +9,7 @@ cd "$work" || exit 1
 
 passed=0
 failed=0
+skipped=0
 
 # verdict NAME STATUS: counts a case, which passed if the status is 0.
 verdict() {
@@ -18,6 +19,12 @@ verdict() {
         failed=$((failed + 1))
         echo "failed: $1"
     fi
+}
+
+# skip NAME WHY: counts a case that can't be tried here.
+skip() {
+    skipped=$((skipped + 1))
+    echo "skipped: $1: $2"
 }
 
 # bytes HEX...: writes bytes given as hexadecimal digits.
@@ -32,6 +39,8 @@ bytes() {
 
 # The last line, and the status of the whole.
 finish() {
-    echo "$passed passed, $failed failed"
+    local more=
+    [ "$skipped" -eq 0 ] || more=", $skipped skipped"
+    echo "$passed passed, $failed failed$more"
     [ "$failed" -eq 0 ]
 }
