@@ -3,7 +3,8 @@
 #
 #   tests/kit.sh
 #
-# What is missing is built first. SANDGUSSET_PYTHON: words that run a Python for x86-64, where python3 is for another machine.
+# What is missing is built first. On a machine that is not x86-64, Debian's Python for x86-64 is fetched into that folder; if
+# it can't be had, the host in Python is run on the plain C version of the library alone, and the rest of it is skipped.
 # The last line is 'N passed, 0 failed', and how many were skipped if any were.
 . "$(dirname "$0")/../tools/help.sh"
 . "$(dirname "$0")/common.sh"
@@ -198,15 +199,15 @@ python_host() {
     answered "$name: refused" 1 'refused 1 at 26'
 }
 head -c 40 "$root/examples/source-trace.bin" >cut
-python=${SANDGUSSET_PYTHON-}
-if [ -z "$runner" ]; then
-    python=python3
+python=$(python3 -c 'import sys; print(sys.executable)')
+if [ -n "$runner" ]; then
+    "$root/tests/x86-python" "$work/python" >fetched 2>&1 && python=$work/python/python3 || python=
 fi
 if [ -n "$python" ]; then
-    # shellcheck disable=SC2086
-    python_host 'the host in Python' "$kit/lib/libsandgusset.so" $python
+    python_host 'the host in Python' "$kit/lib/libsandgusset.so" "$python"
 else
-    skip 'the host in Python on the proved library' "python3 is not for x86-64 here; SANDGUSSET_PYTHON names one that is"
+    tail -n 1 fetched
+    skip 'the host in Python on the proved library' "no Python for x86-64"
 fi
 # The plain C version has the same calls, and this machine's own compiler: so the script itself runs everywhere.
 if "${CC:-cc}" -std=c99 -O2 -shared -fPIC "-I$root/include" "$root/bench/sandgusset.c" -o plain.so 2>/dev/null; then
@@ -263,11 +264,11 @@ fi
 mkdir desk bin
 ln -s "$root/tools" "$root/examples" desk/
 printf '#!/bin/sh\nexec %s "$@"\n' "$cc" >bin/cc
-printf '#!/bin/sh\nexec %s "$@"\n' "$(python3 -c 'import sys; print(sys.executable)')" >bin/python3
-chmod +x bin/*
+chmod +x bin/cc
 sed -n '/^## Link the library/,/^## What/s/^    //p' "$root/README.md" | sed "s|^\./host|$shared_runner ./host|" >commands
 cp "$root/tests/host/source-trace.out" wanted
-if [ -z "$runner" ]; then
+if [ -n "$python" ]; then
+    ln -s "$python" bin/python3
     printf '%s\n' "${python_lines[@]}" >>wanted
 else
     sed -i '/^python3/d' commands
