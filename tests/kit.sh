@@ -248,6 +248,26 @@ failed_with 'sandgusset-judge: an unknown option' 3 'there is no such option'
 cp -a kit moved && ln -s ../moved/bin/sandgusset-judge home/linked
 run home/linked "$root/examples/touching.bin"
 answered 'sandgusset-judge: moved, and called by a link' 0 strict
+# Which way of running is taken on x86-64, whatever this machine is: stand-ins for uname, the program and the kit's loader.
+# stand_in FILE LINE: a script that prints the line, but for empty input what the program prints then.
+stand_in() {
+    mkdir -p "${1%/*}"
+    printf '#!/bin/sh\n[ "$(wc -c)" -gt 0 ] || exec echo refused 1 at 0\necho %s\n' "$2" >"$1"
+    chmod +x "$1"
+}
+on_x86() {
+    run env "PATH=$work/machine:$PATH" "RATTLE_HOME=$work/$1" home/linked "$root/examples/touching.bin"
+}
+mkdir machine && printf '#!/bin/sh\necho x86_64\n' >machine/uname && chmod +x machine/uname
+stand_in moved/libexec/sandgusset/judge strict
+stand_in rattle/on/x86_64/toolchain/lib/ld-linux-x86-64.so.2 'turning 1 2'
+on_x86 rattle
+answered "sandgusset-judge: the system's loader is taken first" 0 strict
+printf '#!/bin/sh\nexit 1\n' >moved/libexec/sandgusset/judge
+on_x86 rattle
+answered "sandgusset-judge: the kit's loader is taken if the system's does not do" 1 'turning 1 2'
+on_x86 none
+failed_with 'sandgusset-judge: no loader does' 3 "can't run the program"
 rm moved/libexec/sandgusset/judge
 run home/linked "$root/examples/touching.bin"
 failed_with 'sandgusset-judge: without its program' 3 'the program is missing'
