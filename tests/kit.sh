@@ -58,7 +58,7 @@ passes() {
 # ---- Installing ----
 
 install=(env "HOME=$work/home" "TMPDIR=$work/spare" "$root/tools/install")
-for script in tools/install tools/sandgusset-judge tests/kit.sh tests/host.sh tests/run bench/run; do
+for script in tools/install tools/sandgusset-judge tests/kit.sh tests/host.sh tests/run tests/x86-python bench/run; do
     run "$root/$script" --help
     [ "$status" -eq 0 ] && [ ! -s err ] && grep -q "^  .*$(basename "$script")" out
     verdict "$script --help" $?
@@ -110,7 +110,7 @@ named() {
 }
 each named <wanted
 verdict 'it says what it installs' $?
-[ -z "$(find home spare -mindepth 1)" ] && [ -z "$(find "$root/target" -maxdepth 1 -name 'install.*')" ]
+[ -z "$(find home spare -mindepth 1)" ]
 verdict 'nothing is left elsewhere' $?
 cmp -s "$root/include/sandgusset.h" kit/include/sandgusset.h &&
     cmp -s "$root/target/staticlib/libsandgusset.a" kit/lib/libsandgusset.a &&
@@ -123,6 +123,8 @@ run "${install[@]}" /opt/sandgusset --destdir packed
 [ "$status" -eq 0 ] && holds packed/opt/sandgusset && [ "$(ls packed packed/opt)" = $'packed:\nopt\n\npacked/opt:\nsandgusset' ] &&
     grep -qx 'prefix=/opt/sandgusset' packed/opt/sandgusset/lib/pkgconfig/sandgusset.pc && ! grep -rqF "$work" packed
 verdict 'with --destdir all is below that folder and speaks of PREFIX' $?
+(umask 077 && "${install[@]}" "$work/shy/kit" >/dev/null) && [ -z "$(find shy -not -perm -444 -o -type d -not -perm -555)" ]
+verdict 'everyone may read what is installed, whatever the mask' $?
 
 # ---- Versions, names, sections ----
 
@@ -217,6 +219,9 @@ else
 fi
 run python3 "$root/examples/host.py" cut "$work/none.so"
 failed_with 'the host in Python without its library' 2 'none.so'
+run python3 "$root/examples/host.py" --help
+[ "$status" -eq 0 ] && grep -qF 'host.py FILE [LIBRARY]' out && [ ! -s err ]
+verdict 'the host in Python, --help' $?
 run python3 "$root/examples/host.py"
 failed_with 'the host in Python, wrong call' 2 'host.py FILE [LIBRARY]'
 
