@@ -100,8 +100,8 @@ extern "C" {
 #define SANDGUSSET_TRACE_BYTES 540
 #define SANDGUSSET_STAMP_BYTES 2160
 
-/* Bytes of stack: each call uses less. What the loader takes at a first call, in a program that binds functions late
- * (-z lazy), is not counted: about 4 KB. */
+/* Bytes of stack: each call uses less. Not counted are some KB that the system's loader takes at a first call in a program
+ * that binds its functions late (linked without -z now). */
 #define SANDGUSSET_STACK_JUDGE 65536
 #define SANDGUSSET_STACK_JUDGE_TRACE 20480
 #define SANDGUSSET_STACK_REPLAY 24576
@@ -230,8 +230,8 @@ struct sandgusset_transition {
     uint16_t departure, input, output, arrival, u, v, d;
 };
 
-/* Takes the transition with this number (from 0) out of a table file. 1: it is in *found; 0: the file has none, and *found
- * keeps what it held. Any bytes may be handed in; the numbers are as they stand there, so judge the file first. */
+/* Takes the transition with this number (from 0) out of a table file. 1: it is in *found; 0: the file has none, and
+ * *found keeps what it held. Any bytes may be handed in; the numbers are as they stand there, so judge the file first. */
 static inline int sandgusset_get_transition(const uint8_t *file, size_t file_len, size_t number,
                                             struct sandgusset_transition *found)
 {
