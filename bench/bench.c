@@ -3,9 +3,10 @@
  * Links the library's four calls (sandgusset_...) with those of bench/sandgusset.c under other names (base_...).
  * bench/run builds it, runs it and prints a table of what it says. It says, in lines whose words are parted by tabs:
  *   time   group  name  goal (greatest ratio, or 0)  seconds per call of the library  of the baseline
- *   stack  call   bytes
+ *   stack  call   bytes that it used  bytes that the header names
  *   wrong  what
- * `bench --files DIRECTORY` writes the table files that it uses instead.
+ * `bench --stack` says the stack and what is wrong alone; `bench --files DIRECTORY` writes the table files that it uses
+ * instead.
  */
 #define _GNU_SOURCE
 #include <stdio.h>
@@ -161,6 +162,22 @@ static size_t stack_used(const struct work *w)
     while (i < STACK / 8 && words[i] == paint)
         i++;
     return STACK - 8 * i;
+}
+
+/* The most that each call takes on any of the works, over what an empty call takes. */
+static void tell_stacks(void)
+{
+    static const size_t limits[CALLS] = { SANDGUSSET_STACK_JUDGE, SANDGUSSET_STACK_JUDGE_TRACE, SANDGUSSET_STACK_REPLAY,
+                                          SANDGUSSET_STACK_REWRITE };
+    size_t empty = stack_used(NULL), most[CALLS] = { 0 };
+    for (unsigned i = 0; i < work_count; i++) {
+        size_t used = stack_used(&works[i]);
+        used = used > empty ? used - empty : 0;
+        if (used > most[works[i].call])
+            most[works[i].call] = used;
+    }
+    for (int call = 0; call < CALLS; call++)
+        printf("stack\t%s\t%lu\t%lu\n", call_names[call], (unsigned long)most[call], (unsigned long)limits[call]);
 }
 
 /* ---- tables ---- */
@@ -364,6 +381,17 @@ static void tell_time(const char *group, struct work *w)
     fflush(stdout);
 }
 
+static void tell_wrongs(void)
+{
+    for (unsigned i = 0; i < work_count; i++)
+        for (int who = LIBRARY; who <= BASELINE; who++) {
+            uint64_t answer = perform(who, &works[i]);
+            if (sandgusset_status(answer) != works[i].wanted)
+                printf("wrong\tthe %s answers status %u to '%s', wanted %u\n", who == LIBRARY ? "library" : "baseline",
+                       sandgusset_status(answer), works[i].name, (unsigned)works[i].wanted);
+        }
+}
+
 static int write_files(const char *directory)
 {
     for (unsigned i = 0; i < work_count; i++) {
@@ -379,33 +407,19 @@ static int write_files(const char *directory)
 
 int main(int argc, char **argv)
 {
-    size_t most[CALLS] = { 0 };
     make_works();
     if (argc > 2 && strcmp(argv[1], "--files") == 0)
         return write_files(argv[2]);
 
-    for (unsigned i = 0; i < work_count; i++)
-        for (int who = LIBRARY; who <= BASELINE; who++) {
-            uint64_t answer = perform(who, &works[i]);
-            if (sandgusset_status(answer) != works[i].wanted)
-                printf("wrong\tthe %s answers status %u to '%s', wanted %u\n", who == LIBRARY ? "library" : "baseline",
-                       sandgusset_status(answer), works[i].name, (unsigned)works[i].wanted);
-        }
+    tell_wrongs();
+    tell_stacks();
+    if (argc > 1 && strcmp(argv[1], "--stack") == 0)
+        return 0;
     for (unsigned i = 0; i < main_works; i++)
         tell_time("calls", &works[i]);
     for (unsigned i = main_works; i < by_transitions; i++)
         tell_time("transitions", &works[i]);
     for (unsigned i = by_transitions; i < by_delay; i++)
         tell_time("delay", &works[i]);
-
-    size_t empty = stack_used(NULL);
-    for (unsigned i = 0; i < work_count; i++) {
-        size_t used = stack_used(&works[i]);
-        used = used > empty ? used - empty : 0;
-        if (used > most[works[i].call])
-            most[works[i].call] = used;
-    }
-    for (int call = 0; call < CALLS; call++)
-        printf("stack\t%s\t%lu\n", call_names[call], (unsigned long)most[call]);
     return 0;
 }

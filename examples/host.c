@@ -4,7 +4,11 @@
    rests on. For a turning table it plays the two words it was shown and prints
    the two orders of the responses side by side.
 
-   Build it with the header's directory and the library's archive, for instance
+   Build it with the installed kit,
+
+       cc -std=c99 examples/host.c $(pkg-config --cflags --libs sandgusset) -o host
+
+   or with the header's directory and the library's archive, for instance
 
        cc -std=c99 -I include examples/host.c ARCHIVE -o host
 
@@ -32,38 +36,23 @@ static double host_ticks(uint32_t parts)
     return parts / 256.0;
 }
 
-/* The output letter of a transition, from the table file itself. The file was
-   judged, so it is whole: a head of 8 bytes, then 18 bytes a transition, of
-   which the first four are length and kind and the third number the output. */
-static unsigned host_output(const uint8_t *file, unsigned transition)
+/* The output letter of a transition, from the table file itself. */
+static unsigned host_output(const uint8_t *file, size_t file_bytes, unsigned number)
 {
-    return sandgusset_get16(file + 8 + 18 * (size_t)transition + 4, 2);
+    struct sandgusset_transition transition = { 0, 0, 0, 0, 0, 0, 0 };
+
+    sandgusset_get_transition(file, file_bytes, number, &transition);
+    return transition.output;
 }
 
 /* ---- Refusals ---- */
-
-static const char *host_meaning(unsigned refusal)
-{
-    switch (refusal) {
-    case 1: return "a record is cut off, or its length is not that of its kind";
-    case 2: return "a record of unknown kind or out of place, or bytes after the end record";
-    case 3: return "more than 256 transitions";
-    case 4: return "a number outside its range";
-    case 5: return "a transition equal to an earlier one";
-    case 6: return "the trace is empty, too long, not joined, or names no transition";
-    case 7: return "the number of stamps differs from the number of steps";
-    case 8: return "the lent room is too short";
-    case 9: return "a gap outside its guard";
-    default: return "a number that this host does not know";
-    }
-}
 
 /* The place is a byte of the file for 1 to 5, a step for 9, and else 0. */
 static void host_print_refusal(FILE *to, uint64_t answer)
 {
     unsigned number = sandgusset_status(answer);
 
-    fprintf(to, "refused %u at %u: %s\n", number, sandgusset_first(answer), host_meaning(number));
+    fprintf(to, "refused %u at %u: %s\n", number, sandgusset_first(answer), sandgusset_text(number));
 }
 
 /* ---- Split ---- */
@@ -132,10 +121,10 @@ static char host_mark(uint64_t answer, unsigned step)
 }
 
 static void host_print_response(const struct host_played *played, unsigned i, uint64_t answer,
-                                const uint8_t *file, const uint8_t *trace)
+                                const uint8_t *file, size_t file_bytes, const uint8_t *trace)
 {
     unsigned step = sandgusset_get16(played->order, i);
-    unsigned output = host_output(file, sandgusset_get16(trace, step - 1));
+    unsigned output = host_output(file, file_bytes, sandgusset_get16(trace, step - 1));
 
     printf("  %c %4u %7u %11.3f", host_mark(answer, step), step, output,
            host_ticks(sandgusset_get32(played->due, i)));
@@ -168,9 +157,9 @@ static int host_print_turning(uint64_t answer, const uint8_t *file, size_t file_
     printf("    late word                   |    early word\n");
     printf("    step  output         due    |    step  output         due\n");
     for (j = 0; j < steps; j++) {
-        host_print_response(&late, j, answer, file, trace);
+        host_print_response(&late, j, answer, file, file_bytes, trace);
         printf("    |");
-        host_print_response(&early, j, answer, file, trace);
+        host_print_response(&early, j, answer, file, file_bytes, trace);
         printf("\n");
     }
 

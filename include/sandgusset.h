@@ -12,8 +12,9 @@
  *   - All numbers in buffers are little-endian: transition numbers and step numbers take places of two bytes, stamps
  *     and due times places of four. sandgusset_get16 and its sisters below read and write such places.
  *   - Room counts whole places: 5 bytes are two places of two, and the fifth byte is never touched.
- *   - Nothing is kept, and no memory is asked for: a call works in what is lent and on its stack, of which it uses less
- *     than 96 KB.
+ *   - Nothing is kept, and no memory is asked for: a call works in what is lent and on its stack. So calls may run in
+ *     several threads at once, as long as no buffer that a call writes is shared with another.
+ *   - A call uses less stack than its SANDGUSSET_STACK_ number below says.
  *   - A refused call writes nothing. Places that a result does not use, and bytes after the last whole place, keep
  *     what they held.
  *
@@ -25,6 +26,7 @@
  *   status 1 to 9      refused with this number; first is the place
  *   status 256         split (only sandgusset_judge)
  *   status 257         turning (sandgusset_judge and sandgusset_judge_trace)
+ *   sandgusset_text gives each of them in words.
  *
  * REFUSALS
  *   1  the table file: fewer than 4 bytes left where a record must begin, a length that is not that of the kind, or
@@ -48,7 +50,7 @@
  *     kind 2, length 16  transition: departure, input, output, arrival, u, v, d
  *                        (states from 0; letters 0 to 255; 1 <= u < v <= 4,095 and 1 <= d <= 240, in ticks)
  *     kind 3, length  2  end
- *   Transitions are numbered from 0 in file order.
+ *   Transitions are numbered from 0 in file order; sandgusset_get_transition takes one out of a file by its number.
  *
  * TIME
  *   Stamps are 32-bit counts of 1/256 tick on a counter that wraps. A gap is the difference of successive stamps
@@ -65,6 +67,12 @@
 #ifdef __cplusplus
 extern "C" {
 #endif
+
+/* The version: a minor one adds calls and numbers, a major one changes what a call means (CHANGELOG.md). */
+#define SANDGUSSET_VERSION "1.1.0"
+#define SANDGUSSET_VERSION_MAJOR 1
+#define SANDGUSSET_VERSION_MINOR 1
+#define SANDGUSSET_VERSION_PATCH 0
 
 /* Values of the status field. */
 #define SANDGUSSET_DONE 0           /* strict, steady, replayed or written */
@@ -92,6 +100,13 @@ extern "C" {
 #define SANDGUSSET_TRACE_BYTES 540
 #define SANDGUSSET_STAMP_BYTES 2160
 
+/* Bytes of stack: each call uses less. Not counted are some KB that the system's loader takes at a first call in a program
+ * that binds its functions late (linked without -z now). */
+#define SANDGUSSET_STACK_JUDGE 65536
+#define SANDGUSSET_STACK_JUDGE_TRACE 20480
+#define SANDGUSSET_STACK_REPLAY 24576
+#define SANDGUSSET_STACK_REWRITE 15360
+
 /* Judges a whole table. Refusals: 1 to 5, 8.
  *
  * Lend at least 270 trace places (540 bytes) and 540 stamp places (2,160 bytes), whatever the table is.
@@ -107,7 +122,8 @@ extern "C" {
  *          word takes the gap v at every step; the early word takes u and 1/256 tick at steps K+1 to M, v elsewhere.
  *          Step K is the lowest-numbered reachable transition that can be the first of such a pair, at its first place in
  *          the shown trace.
- * A shown trace has at most 270 steps; which of several it is, is free. A table that is both is answered as split. */
+ * A shown trace has at most 270 steps; which of several it is, is free. A table that is both is answered as split.
+ * sandgusset_judge_trace on a shown trace may name another pair of steps: there K is the least of all. */
 uint64_t sandgusset_judge(const uint8_t *file, size_t file_len,
                           uint8_t *trace, size_t trace_len,
                           uint8_t *stamps, size_t stamps_len);
@@ -162,6 +178,26 @@ static inline int sandgusset_refused(uint64_t answer)
     return sandgusset_status(answer) >= 1 && sandgusset_status(answer) <= 255;
 }
 
+/* A status in words; 0 is "done". */
+static inline const char *sandgusset_text(unsigned status)
+{
+    switch (status) {
+    case SANDGUSSET_DONE: return "done";
+    case SANDGUSSET_BAD_RECORD: return "a record is cut off, or its length is not that of its kind";
+    case SANDGUSSET_BAD_KIND: return "a record of unknown kind or out of place, or bytes after the end record";
+    case SANDGUSSET_TOO_MANY: return "more than 256 transitions";
+    case SANDGUSSET_BAD_NUMBER: return "a number outside its range";
+    case SANDGUSSET_REPEATED: return "a transition equal to an earlier one";
+    case SANDGUSSET_BAD_TRACE: return "the trace is empty, too long, of odd length, not joined, or names no transition";
+    case SANDGUSSET_BAD_STAMPS: return "the number of stamps differs from the number of steps";
+    case SANDGUSSET_NO_ROOM: return "the lent room is too short";
+    case SANDGUSSET_BAD_GAP: return "a gap outside its guard";
+    case SANDGUSSET_SPLIT: return "split: two transitions are open to one input at one time";
+    case SANDGUSSET_TURNING: return "turning: two steps respond in either order";
+    default: return "unknown";
+    }
+}
+
 /* Place number i (from 0) of a buffer with places of two bytes. */
 static inline uint16_t sandgusset_get16(const uint8_t *places, size_t i)
 {
@@ -187,6 +223,44 @@ static inline void sandgusset_put32(uint8_t *places, size_t i, uint32_t number)
     places[4 * i + 1] = (uint8_t)((number >> 8) & 0xFFu);
     places[4 * i + 2] = (uint8_t)((number >> 16) & 0xFFu);
     places[4 * i + 3] = (uint8_t)((number >> 24) & 0xFFu);
+}
+
+/* A transition as it stands in a table file: states, letters, and u, v, d in ticks. */
+struct sandgusset_transition {
+    uint16_t departure, input, output, arrival, u, v, d;
+};
+
+/* Takes the transition with this number (from 0) out of a table file. 1: it is in *found; 0: the file has none, and
+ * *found keeps what it held. Any bytes may be handed in; the numbers are as they stand there, so judge the file first. */
+static inline int sandgusset_get_transition(const uint8_t *file, size_t file_len, size_t number,
+                                            struct sandgusset_transition *found)
+{
+    size_t at, length;
+
+    /* By the records' own lengths, none of which is trusted. */
+    for (at = 0; file_len - at >= 4; at += 2 + length) {
+        const uint8_t *record = file + at;
+        unsigned kind = sandgusset_get16(record, 1);
+
+        length = sandgusset_get16(record, 0);
+        if (length < 2 || length > file_len - at - 2)
+            return 0;
+        if (kind == 1)
+            continue;
+        if (kind != 2 || length != 16)
+            return 0;
+        if (number-- > 0)
+            continue;
+        found->departure = sandgusset_get16(record, 2);
+        found->input = sandgusset_get16(record, 3);
+        found->output = sandgusset_get16(record, 4);
+        found->arrival = sandgusset_get16(record, 5);
+        found->u = sandgusset_get16(record, 6);
+        found->v = sandgusset_get16(record, 7);
+        found->d = sandgusset_get16(record, 8);
+        return 1;
+    }
+    return 0;
 }
 
 #endif

@@ -12,6 +12,7 @@ cd "$work" || exit 1
 
 passed=0
 failed=0
+skipped=0
 
 # verdict NAME STATUS: counts a case, which passed if the status is 0.
 verdict() {
@@ -21,6 +22,12 @@ verdict() {
         failed=$((failed + 1))
         echo "failed: $1"
     fi
+}
+
+# skip NAME WHY: counts a case that can't be tried here.
+skip() {
+    skipped=$((skipped + 1))
+    echo "skipped: $1: $2"
 }
 
 # bytes HEX...: writes bytes given as hexadecimal digits.
@@ -40,6 +47,8 @@ another_user() {
 
 # The last line, and the status of the whole.
 finish() {
-    echo "$passed passed, $failed failed"
+    local more=
+    [ "$skipped" -eq 0 ] || more=", $skipped skipped"
+    echo "$passed passed, $failed failed$more"
     [ "$failed" -eq 0 ]
 }

@@ -1,14 +1,23 @@
 #!/usr/bin/env bash
-# Builds examples/host.c with an archive of the library and runs it on the examples: what it prints and its status.
+# Builds examples/host.c and runs it on the examples: what it prints and its status.
 #
-#   tests/host.sh ARCHIVE
+#   tests/host.sh ARCHIVE           with an archive of the library
+#   tests/host.sh --kit PREFIX      with what tools/install has put below PREFIX, as pkg-config says, on the shared object
 #
 # The last line is 'N passed, 0 failed'.
-archive=$(readlink -f "${1:?the library\'s archive is needed}") || exit 2
+. "$(dirname "$0")/../tools/help.sh"
+[ $# -gt 0 ] && what=$(readlink -f "${@: -1}") || { usage >&2; exit 2; }
 . "$(dirname "$0")/common.sh"
 . "$root/tests/x86.sh"
 
-"$cc" -std=c99 -O2 -Wall -Wextra -pedantic -Werror "-I$root/include" -static "$root/examples/host.c" "$archive" -o host || exit 1
+words=("-I$root/include" -static "$what")
+if [ "${1-}" = --kit ]; then
+    need pkg-config pkgconf
+    export PKG_CONFIG_PATH=$what/lib/pkgconfig LD_LIBRARY_PATH=$what/lib
+    read -ra words < <(pkg-config --cflags --libs sandgusset)
+    runner=$shared_runner
+fi
+"$cc" -std=c99 -O2 -Wall -Wextra -pedantic -Werror "$root/examples/host.c" "${words[@]}" -o host || exit 1
 
 # run FILE...: what the host printed is in out and err, its status in $status.
 run() {
