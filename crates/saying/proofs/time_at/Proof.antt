@@ -1,0 +1,12 @@
+-- What is not named follows from the arithmetic around it.
+use borrow.Author.Needs.{needs}
+use mathlib.Core.Path.{sym}
+use lib.ListN.{List·getD-eq-default}
+use Rattle.saying.proofs.time_at.Statement.{statement}
+use Rattle.saying.proofs.time_at.Tie as tie
+
+returns : tie.Need-returns
+returns c = sym (List·getD-eq-default (c .before .before .args .places .now) 0 (c .if1 .taken))
+
+pub time-at-spec : {M : Type 1} → statement M
+time-at-spec = tie.close (tie.spec returns (λ c. search needs) (λ c. search needs) (λ c. search needs) (λ c. search needs))
