@@ -34,13 +34,13 @@ fn wide_step(x: u16) -> usize
 }
 
 // The stamp or due time at i.
-pub fn time_at(places: &[u32], i: usize) -> usize
-    ensures { λ r. ⌜ r ≡ getD (now (places .entry)) i 0 ⌝ }
+pub fn time_at(times: &[u32], i: usize) -> usize
+    ensures { λ r. ⌜ r ≡ getD (now (times .entry)) i 0 ⌝ }
 {
-    if places.len() <= i {
+    if times.len() <= i {
         return 0;
     }
-    wide_time(places[i])
+    wide_time(times[i])
 }
 
 fn wide_time(x: u32) -> usize

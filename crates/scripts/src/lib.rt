@@ -8,16 +8,6 @@ mod verdicts;
 
 use table::Table;
 
-// One state and no transitions: what the first `table` begins with.
-fn nothing() -> Table {
-    Table {
-        states: 1,
-        initial: 0,
-        count: 0,
-        cells: [0u16; 1792],
-    }
-}
-
 // `table`: states, initial state, number of transitions, then cells, stored over the first ones of the table before.
 fn changed(t: Table, numbers: &[u32]) -> Table {
     let mut cells = t.cells;
@@ -30,8 +20,13 @@ fn changed(t: Table, numbers: &[u32]) -> Table {
     }
 }
 
-// The call that a letter stands for.
-fn call(letter: u8, t: Table, numbers: &[u32], file: &mut [u8]) {
+// A case, and the table for what follows: of any but `table` the name is printed, then what the call answers that its letter stands for.
+fn answer(name: &[u8], letter: u8, t: Table, numbers: &[u32], file: &mut [u8]) -> Table {
+    if letter == b't' {
+        return changed(t, numbers);
+    }
+    saying::say(name);
+    saying::say(b" ");
     match letter {
         b'f' => files::read_file(numbers, file),
         b'c' => files::check_value(t),
@@ -42,21 +37,16 @@ fn call(letter: u8, t: Table, numbers: &[u32], file: &mut [u8]) {
         b'l' => verdicts::least_unsteady(t),
         _ => saying::say(b"UNKNOWN\n"),
     }
-}
-
-// A case, and the table for what follows: of any but `table` the name is printed, then what the call answers.
-fn answer(name: &[u8], letter: u8, t: Table, numbers: &[u32], file: &mut [u8]) -> Table {
-    if letter == b't' {
-        return changed(t, numbers);
-    }
-    saying::say(name);
-    saying::say(b" ");
-    call(letter, t, numbers, file);
     t
 }
 
 fn cases(all: &[u8], file: &mut [u8], list: &mut [u32]) {
-    let mut t = nothing();
+    let mut t = Table {
+        states: 1,
+        initial: 0,
+        count: 0,
+        cells: [0u16; 1792],
+    };
     let mut at: usize = 0;
     while at < all.len() {
         let name = text::past(all, at, b' ');

@@ -41,15 +41,6 @@ fn digit(c: u8) -> u64 {
     (c - 48) as u64
 }
 
-// The number of which one digit more is read.
-fn more(x: u64, d: u64) -> u64 {
-    x % 4294967296 * 10 + d % 10
-}
-
-fn low(x: u64) -> u32 {
-    (x % 4294967296) as u32
-}
-
 // A number that is being read: how many stand before it, its digits so far, whether it has any.
 struct Scan {
     count: usize,
@@ -64,13 +55,13 @@ fn take(c: u8, s: Scan, out: &mut [u32]) -> Scan {
     if d < 10 {
         return Scan {
             count: at,
-            x: more(s.x, d),
+            x: s.x % 4294967296 * 10 + d,
             open: true,
         };
     }
     if s.open {
         if at < out.len() {
-            out[at] = low(s.x);
+            out[at] = (s.x % 4294967296) as u32;
             return Scan {
                 count: at + 1,
                 x: 0,
