@@ -32,19 +32,26 @@ module _ (room w : ℕ) (b : List ℕ) where
     unfolding fitted
     whole-all h = rw (le-ltb _ _ even, le-ltb _ _ h)
 
--- what the decoding leaves
-module _ (w : ℕ) (b out₀ : List ℕ) where
-  pub decoded-none : fitted (length out₀) w b ≡ [] → Decoded w b out₀ 0 out₀
+-- what the decoding leaves: nothing changed, or the whole list in front
+module _ {w : ℕ} {b out₀ : List ℕ} where
+  decoded-none : fitted (length out₀) w b ≡ [] → Decoded w b out₀ 0 out₀
   decoded-none e = record { count = rw e; few = omega arith; is = rw e }
 
-  pub decoded-all : (out : List ℕ) → length b % w ≤ 0 → length b / w ≤ length out₀ → out ≡ taken w b out₀ → Decoded w b out₀ (length b / w) out
+  pub decoded-rest : 0 < length b % w → Decoded w b out₀ 0 out₀
+  decoded-rest h = decoded-none (rest-none (length out₀) w b h)
+
+  pub decoded-long : length b % w ≤ 0 → length out₀ < length b / w → Decoded w b out₀ 0 out₀
+  decoded-long e h = decoded-none (long-none (length out₀) w b e h)
+
+  pub decoded-all : {out : List ℕ} → length b % w ≤ 0 → length b / w ≤ length out₀ → out ≡ taken w b out₀ → Decoded w b out₀ (length b / w) out
   unfolding taken
-  decoded-all out e h t =
+  decoded-all {out} e h t =
       let n : min (length out₀) (length b / w) ≡ length b / w = omega arith in
       let f : out ≡ wholes w b ++ drop (length b / w) out₀ = rw n at t in
       let g = whole-all (length out₀) w b e h in
       record { count = rw g (sym (length-wholes w b)); few = h; is = rw g f }
 
+module _ (w : ℕ) (b out₀ : List ℕ) where
   -- two outcomes that the contract allows are equal, count and content
   pub decoded-only : {n m : ℕ} {x y : List ℕ} → Decoded w b out₀ n x → Decoded w b out₀ m y → (n ≡ m) × (x ≡ y)
   decoded-only c d =
@@ -89,10 +96,10 @@ module _ (ts : List Transition) (trace : List ℕ) where
   trace-count h = ap length (handed-whole 2 trace (h .some) .is) ∙ length-wholes 2 trace
 
 -- no more are taken than there are
-pub take-lesser : (n : ℕ) (l : List ℕ) → take (min n (length l)) l ≡ take n l
-take-lesser n l =
-    dite (decLt n (length l)) (λ h. let e : min n (length l) ≡ n = omega arith in rw e)
-    (λ h. let e : min n (length l) ≡ length l = omega arith in rw (e, take-length l, take-all n l (omega arith)))
+pub take-lesser : (n : ℕ) (l : List ℕ) {k : ℕ} → k ≡ min n (length l) → take k l ≡ take n l
+take-lesser n l {k} h =
+    dite (decLt n (length l)) (λ f. let e : k ≡ n = omega arith in rw e)
+    (λ f. let e : k ≡ length l = omega arith in rw (e, take-length l, take-all n l (omega arith)))
 
 -- the used places written back: xs, of which there are n, from the front of what came back
 pub back : (w n : ℕ) (xs more l : List ℕ) → length xs ≡ n → n * w ≤ length l → placed l 0 (bytes w (take n (xs ++ more))) ≡ bytes w xs ++ drop (w * n) l

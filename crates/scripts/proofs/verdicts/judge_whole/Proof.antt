@@ -1,0 +1,11 @@
+use borrow.Author.Needs.{needs}
+use native.Mathlib.Omega.{arith}
+use lib.ListN.{length-take}
+use Rattle.scripts.proofs.verdicts.judge_whole.Statement.{statement}
+use Rattle.scripts.proofs.verdicts.judge_whole.Tie as tie
+
+pub judge-whole-spec : {M : Type 1} → statement M
+judge-whole-spec =
+    tie.close
+    (tie.spec (λ c. search needs) (λ c. search needs) (λ c. search needs) (λ c. simp length-take (omega arith)) (λ c. search needs)
+    (λ c. simp length-take (omega arith)) (λ c. search needs) (λ c. search needs))
