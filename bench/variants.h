@@ -69,7 +69,9 @@
     VARIANT(FIXED_TRACE, "useless: says turning with a fixed trace") \
     VARIANT(REPLAY_WRITES_NOTHING, "useless: replay writes nothing") \
     VARIANT(FIRST_STEP_ONLY, "useless: replay orders the first step and copies the rest") \
-    VARIANT(EMPTY_TABLE_READ, "useless: the reader always returns the empty table")
+    VARIANT(EMPTY_TABLE_READ, "useless: the reader always returns the empty table") \
+    VARIANT(SHORT_SUMS, "keeps 16 bits of a sum of v, in ticks") \
+    VARIANT(SHORT_PARTS, "keeps 16 bits of a sum of v, in 1/256 tick")
 
 #define SANDGUSSET_VARIANT_NUMBER(name, what) V_##name,
 enum { V_NONE, SANDGUSSET_VARIANT_LIST(SANDGUSSET_VARIANT_NUMBER) V_COUNT };

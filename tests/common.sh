@@ -1,7 +1,6 @@
 # What the test scripts share: sourced, not run. The working folder is a new one, removed at the end.
 
-# A script's first comment is its help.
-case ${1-} in -h | --help) sed -n '2,/^\([^#]\|$\)/s/^# \{0,1\}//p' "$0" && exit ;; esac
+. "$(dirname "${BASH_SOURCE[0]}")/../tools/help.sh"
 
 set -u
 shopt -s lastpipe  # so that a case at the end of a pipe is counted

@@ -224,7 +224,7 @@ verdict 'page: a folder that is not there' $?
 
 # ---- The help of every script ----
 
-(cd "$root" && find judge test .ci tests tools -type f -perm -u+x) | sort >scripts
+(cd "$root" && find judge test .ci bench tests tools -type f -perm -u+x) | sort >scripts
 [ "$(wc -l <scripts)" -ge 11 ]
 verdict 'the scripts were found' $?
 while read -r script; do
