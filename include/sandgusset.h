@@ -102,7 +102,7 @@ extern "C" {
 
 /* Bytes of stack: each call uses less. Not counted are some KB that the system's loader takes at a first call in a program
  * that binds its functions late (linked without -z now). */
-#define SANDGUSSET_STACK_JUDGE 65536
+#define SANDGUSSET_STACK_JUDGE 69632
 #define SANDGUSSET_STACK_JUDGE_TRACE 20480
 #define SANDGUSSET_STACK_REPLAY 24576
 #define SANDGUSSET_STACK_REWRITE 15360

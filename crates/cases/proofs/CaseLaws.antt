@@ -1,229 +1,261 @@
 -- What it takes that a case holds: the outcome that it expects is allowed, and no other.
 use mathlib.Core.Path.{_≡_, refl, sym, ap, _∙_}
-use mathlib.Core.Logic.{inr}
-use mathlib.Core.List.{List, [], _∷_, _++_, map, append-assoc}
-use Prim.Native.Nat.{ℕ, zero, suc, _+_, _*_, _≤_, _<_}
+use mathlib.Core.Logic.{_⊎_, inl, inr}
+use mathlib.Core.List.{List, [], _∷_, map}
+use Prim.Native.Nat.{ℕ, zero, suc, _+_, _≤_, _<_}
 use native.Mathlib.Omega.{arith}
-use lib.ListN.{length, getD, drop, length-map}
-use Rattle.model.specs.Table.{Transition, Machine, Valid, at}
-use Rattle.model.specs.Trace.{Trace, steps}
-use Rattle.model.specs.Word.{Fits, Takes}
+use lib.ListN.{length, drop, getD, length-map}
+use Rattle.model.specs.Answers.{Fields, fields}
+use Rattle.model.specs.Lists.{All, all-nil, all-cons, over}
+use Rattle.model.specs.Table.{Transition, Machine, InRange, Valid, at}
+use Rattle.model.specs.Trace.{Trace, Handed, steps}
 use Rattle.model.specs.Order.{Response, response, Conversion}
-use Rattle.model.specs.Span.{Criterion, WalkTurns}
-use Rattle.model.specs.Verdict.{SplitPair, Splits}
-use Rattle.model.specs.Shown.{lateWord, earlyWord}
-use Rattle.model.specs.Stamps.{gapsFrom, spelled, wordFrom, stampsOf}
-use Rattle.model.proofs.Lists.{Beside, beside-both}
+use Rattle.model.specs.Criterion.{Criterion, WalkTurns}
+use Rattle.model.specs.Verdict.{SplitPair, Splits, OnlyTurns}
+use Rattle.model.specs.Stamps.{gapsFrom, wordFrom, shownStamps}
 use Rattle.model.proofs.Conversion.{order, conversion-exists}
-use Rattle.model.proofs.Pair.{turns-law}
+use Rattle.model.proofs.CriterionLaws.{InTicks, criterion-is}
+use Rattle.model.proofs.Pair.{turns-law, turning-law}
 use Rattle.model.proofs.Paths.{trace-ranged, length-steps}
 use Rattle.model.proofs.Split.{split-law}
-use Rattle.model.proofs.Turn.{ShownTurn, turn-shown, table-walk-law}
-use Rattle.table.specs.declared.Table.{Table}
-use Rattle.table.specs.declared.Checked.the-variants.{Sound}
-use Rattle.table.specs.declared.Refusal.the-variants.{Outside}
-use Rattle.table.specs.Refusal.{refusalNumber, refusalPlace}
-use Rattle.table.specs.Rows.{rows, named, machineOf}
-use Rattle.table.specs.Check.{checkOf}
-use Rattle.table.specs.Tests.{Passes}
-use Rattle.table.proofs.TestLaws.{sound-valid, sound-passes, passes-fails}
-use Rattle.trace.specs.Named.{stepsIn}
-use Rattle.trace.proofs.TraceLaws.{length-steps-in, named-in}
-use Rattle.replay.specs.declared.Replayed.{Replayed}
-use Rattle.replay.specs.declared.Replayed.the-variants.{Played, Refused}
-use Rattle.replay.specs.Play.{FirstOutside, ReplayOutcome}
+use Rattle.model.proofs.Turn.{table-walk-law}
+use Rattle.model.proofs.Words.{words-show}
+use Rattle.table.specs.Tests.{Test, Passes, Answered, refuses, answers, afterTable}
+use Rattle.table.proofs.TestLaws.{passes-append, fails-back, answered-only, valid-passes}
+use Rattle.trace.proofs.TraceLaws.{handed-ranged}
+use Rattle.replay.specs.Play.{ownTests, gapTests, replayTests, ReplayOutcome}
 use Rattle.replay.proofs.LaidLaws.{conversion-length}
-use Rattle.replay.proofs.ReplayLaws.{passes-all}
-use Rattle.replay.proofs.OutcomeLaws as replay
-use Rattle.verdict.specs.declared.OnTrace.{OnTrace}
-use Rattle.verdict.specs.declared.OnTrace.the-variants.{Steady, Turning, Refused as Unjudged}
-use Rattle.verdict.specs.OnTrace.{TraceOutcome}
-use Rattle.words.specs.Left.{wordsLeft}
-use Rattle.verdict.proofs.JudgeLaws.{Tested, steady, turning}
+use Rattle.replay.proofs.ReplayLaws.{all-activates}
+use Rattle.replay.proofs.OutcomeLaws.{play-only}
+use Rattle.verdict.specs.OnTrace.{TraceSays, says-steady, says-turning, TraceOutcome}
 use Rattle.verdict.proofs.JudgeLaws as verdict
-use Rattle.table_verdict.specs.declared.OnTable.{OnTable}
-use Rattle.table_verdict.specs.declared.OnTable.the-variants.{Strict, Split, Turning as TurningTable, Refused as RefusedTable}
-use Rattle.table_verdict.specs.OnTable.{tableTests, AnswersTurning, TableOutcome}
-use Rattle.cases.specs.Cases.{Case, replayed, numbered, judged, tabled, sized, Size, over, Holds}
+use Rattle.table_verdict.specs.OnTable.{tableTests, ShowsTurning, TableSays, says-strict, says-split, says-turning as says-shown, TableOutcome}
+use Rattle.cases.specs.Cases.{Case, replayed, judged, tabled, sized, Size, Alone, Holds}
+
+-- every number in its range, and transition i leads from state i to the next
+abbrev pub Chain : ℕ → ℕ → List Transition → Type 0
+Chain n i [] = Unit {0}
+Chain n i (t ∷ ts) = InRange n t × (t .from ≡ i) × (t .to ≡ suc i) × Chain n (suc i) ts
+
+chain-at : (n i : ℕ) (ts : List Transition) (j : ℕ) → Chain n i ts → j < length ts → (at ts j .from ≡ i + j) × (at ts j .to ≡ suc (i + j))
+chain-at n i [] j c h = absurd (omega arith)
+chain-at n i (t ∷ ts) zero c h = (omega arith, omega arith)
+chain-at n i (t ∷ ts) (suc j) c h = let r = chain-at n (suc i) ts j (c .3) (omega arith) in (omega arith, omega arith)
+
+chain-ranged : (n i : ℕ) (ts : List Transition) → Chain n i ts → All (InRange n) ts
+chain-ranged n i [] c = all-nil
+chain-ranged n i (t ∷ ts) c = all-cons (c .0) (chain-ranged n (suc i) ts (c .3))
+
+module _ (m : Machine) (chain : Chain (m .states) 0 (m .transitions)) where
+  pub leads : (i : ℕ) → i < length (m .transitions) → (at (m .transitions) i .from ≡ i) × (at (m .transitions) i .to ≡ suc i)
+  leads i h = let r = chain-at (m .states) 0 (m .transitions) i chain h in (omega arith, omega arith)
+
+  pub chain-valid : Size (m .states) (m .initial) → length (m .transitions) ≤ 256 → Valid m
+  chain-valid (some, most, starts) few = record {
+    some = some;
+    most = most;
+    starts = starts;
+    few = few;
+    ranged = chain-ranged (m .states) 0 (m .transitions) chain;
+    distinct = λ i j h k e. omega (arith, leads i (omega arith), leads j k, ap (λ t. t .from) e);
+  }
+
+  pub chain-unsplit : (i j : ℕ) → SplitPair m i j → ⊥
+  chain-unsplit i j p = omega (arith, leads i (omega (arith, p .ordered, p .inside)), leads j (p .inside), p .together)
 
 -- the responses to the word that the stamps make
 unfoldable pub responsesOf : List Transition → ℕ → List ℕ → List Response
 responsesOf tr start stamps = map (response tr (wordFrom tr start stamps)) (order tr (wordFrom tr start stamps))
 
--- what the definitions say of a word on a trace: it activates the trace and has these responses, or a gap is outside
-abbrev pub Replays : List Transition → ℕ → List ℕ → Replayed → List ℕ → List ℕ → Type 0
-Replays tr start stamps Played order due =
-    Beside (Takes 256) tr (spelled tr (gapsFrom start stamps))
-    × (map (λ x. x .step) (responsesOf tr start stamps) ≡ order) × (map (λ x. x .time) (responsesOf tr start stamps) ≡ due)
-Replays tr start stamps (Refused r) order due = ((s : ℕ) × FirstOutside tr (gapsFrom start stamps) s × (r ≡ Outside s)) × (order ≡ []) × (due ≡ [])
+-- a valid machine, and a trace of it
+pub record Ready (m : Machine) (trace : List ℕ) : Type 0 where
+  pub valid : Valid m
+  pub handed : Handed (m .transitions) trace
+
+-- what the gaps decide, after the other tests of a replay
+abbrev pub GapsSay : List Transition → ℕ → List ℕ → Fields → List ℕ → List ℕ → Type 0
+GapsSay tr start stamps answer order due =
+    Answered (gapTests 0 tr (gapsFrom start stamps))
+    (λ f. (f ≡ fields 0 0 0 0)
+    × (map (λ x. x .step) (responsesOf tr start stamps) ≡ order) × (map (λ x. x .time) (responsesOf tr start stamps) ≡ due))
+    ((order ≡ []) × (due ≡ [])) answer
+
+module _ {m : Machine} {trace : List ℕ} (r : Ready m trace) (start : ℕ) (stamps : List ℕ) (e : length stamps ≡ length trace) where
+  abbrev tr : List Transition
+  tr = steps (m .transitions) trace
+
+  converts : Conversion tr (wordFrom tr start stamps) (responsesOf tr start stamps)
+  unfolding responsesOf
+  converts = conversion-exists tr (wordFrom tr start stamps)
+
+  filled : (f : Response → ℕ) (l : List ℕ) → map f (responsesOf tr start stamps) ≡ l → length l ≡ length trace
+  filled f l q = sym (ap length q) ∙ length-map (responsesOf tr start stamps) f ∙ conversion-length converts ∙ length-steps (m .transitions) trace
+
+  module _ (o₀ d₀ : List ℕ) (a : length trace ≤ length o₀) (b : length trace ≤ length d₀) where
+    abbrev first : List Test
+    first = afterTable m (ownTests m trace stamps o₀ d₀)
+
+    passes : Passes first
+    passes = valid-passes m (r .valid) (ownTests m trace stamps o₀ d₀) (r .handed, (e, ((a, b), tt)))
+
+    replays : {answer : Fields} {os ds : List ℕ} → GapsSay tr start stamps answer os ds
+        → ReplayOutcome m trace start stamps o₀ d₀ answer (over os o₀) (over ds d₀)
+    replays {os = os} {ds = ds} (answers p (z, eo, ed)) =
+        let all : Passes (replayTests m trace start stamps o₀ d₀) = passes-append first (gapTests 0 tr (gapsFrom start stamps)) .1 (passes, p) in
+        let lo : length os ≡ length trace = filled (λ x. x .step) os eo in
+        let ld : length ds ≡ length trace = filled (λ x. x .time) ds ed in
+        answers all (
+          z,
+          record {
+            activates = all-activates m trace start stamps o₀ d₀ all;
+            responses = responsesOf tr start stamps;
+            converts = converts;
+            orders = rw (eo, lo);
+            dues = rw (ed, ld);
+          },
+        )
+    replays (refuses {n = n} {p = p} z f (eo, ed)) =
+        refuses z (fails-back first (gapTests 0 tr (gapsFrom start stamps)) n p passes .1 f) (rw eo, rw ed)
+
+    replays-alone : {answer : Fields} {os ds : List ℕ} → GapsSay tr start stamps answer os ds
+        → Alone (ReplayOutcome m trace start stamps o₀ d₀) answer (over os o₀) (over ds d₀)
+    replays-alone {os = os} {ds = ds} g = (
+      replays g,
+      λ f o d x.
+          let y = play-only {R = (o ≡ over os o₀) × (d ≡ over ds d₀)} (λ p q. (p .0 ∙ sym (q .0), p .1 ∙ sym (q .1)))
+          (λ l k p q p' q'. (p ∙ sym p', q ∙ sym q')) x (replays g) in
+          (y .0, y .1 .0, y .1 .1),
+    )
 
 -- what the criterion says of two steps, the only pair that can turn
-abbrev pub Judges : Transition → Transition → OnTrace → Type 0
-Judges a b Steady = b .u + b .d < a .d → b .v + b .d < a .d
-Judges a b (Turning k m) = (b .u + b .d < a .d) × (a .d ≤ b .v + b .d) × (k ≡ 1) × (m ≡ 2)
-Judges a b (Unjudged r) = ⊥
+abbrev pub PairSays : Transition → Transition → Fields → Type 0
+PairSays a b answer =
+    ((answer ≡ fields 0 0 0 0) × (b .u + b .d < a .d → b .v + b .d < a .d))
+    ⊎ ((answer ≡ fields 257 1 2 2) × (b .u + b .d < a .d) × (a .d ≤ b .v + b .d))
 
--- of the traces from the initial state only this one has two steps, and it has no third
-abbrev pub OnlyTwo : Machine → List ℕ → Type 0
-OnlyTwo m trace = (l : List ℕ) (e k n : ℕ) → Trace (m .transitions) (m .initial) l e → k < n → n < length l → (l ≡ trace) × (k ≡ 0) × (n ≡ 1)
-
--- what the criterion says of a machine that doesn't split: no walk turns, or one does, and a single trace has two steps
-abbrev pub Expects : Machine → OnTable → List ℕ → List ℕ → Type 0
-Expects m Strict trace stamps = ((i : ℕ) → WalkTurns m i → ⊥) × (trace ≡ []) × (stamps ≡ [])
-Expects m (TurningTable k n) trace stamps =
-    let tr : List Transition = steps (m .transitions) trace in
-    ((i : ℕ) × WalkTurns m i) × OnlyTwo m trace × (k ≡ 1) × (n ≡ 2)
-    × (stamps ≡ stampsOf (lateWord tr) ++ stampsOf (earlyWord tr 0 1)) × (length stamps ≡ 2 * length trace)
-Expects m (Split i j n) trace stamps = ⊥
-Expects m (RefusedTable r) trace stamps = ⊥
-
--- what is left to compute of a case
-abbrev pub Computed : Case → Type 0
-Computed (replayed t trace start stamps answer order due) =
-    Tested t trace × (length stamps ≡ length trace) × Replays (stepsIn t trace) start stamps answer order due
-Computed (numbered r number place) = (refusalNumber r ≡ number) × (refusalPlace r ≡ place)
-Computed (judged t trace answer) =
-    let tr : List Transition = stepsIn t trace in
-    Tested t trace × (tr ≡ at tr 0 ∷ at tr 1 ∷ []) × Judges (at tr 0) (at tr 1) answer
-Computed (tabled t answer trace stamps) =
-    (checkOf t ≡ Sound) × ((i j : ℕ) → SplitPair (machineOf t) i j → ⊥) × Expects (machineOf t) answer trace stamps
-Computed (sized c) = (states initial : ℕ) → Size states initial → Computed (c states initial)
-
--- the first step is outside
-pub at-once : {tr : List Transition} {gaps : List ℕ} → 1 ≤ length tr → (Fits 256 (at tr 0) (getD gaps 0 0) → ⊥) → FirstOutside tr gaps 1
-at-once some out = record { i = 0; step = refl; inside = some; before = λ j h. absurd (omega arith); outside = out }
-
-only-pair : {a b : Transition} (k m : ℕ) → Criterion (a ∷ b ∷ []) k m → (k ≡ 0) × (m ≡ 1) × (b .u + b .d < a .d) × (a .d ≤ b .v + b .d)
+only-pair : {a b : Transition} (k m : ℕ) → InTicks (a ∷ b ∷ []) k m → (k ≡ 0) × (m ≡ 1) × (b .u + b .d < a .d) × (a .d ≤ b .v + b .d)
 only-pair zero zero c = absurd (omega arith)
 only-pair zero (suc zero) c = (refl, refl, omega arith, omega arith)
 only-pair zero (suc (suc m)) c = absurd (omega arith)
 only-pair (suc k) m c = absurd (omega arith)
 
--- a table that passes its check, and a trace from state s to state e
-pub tested : {t : Table} {trace : List ℕ} (s e : ℕ) → checkOf t ≡ Sound
-    → (1 ≤ length trace) × (length trace ≤ 512) × Trace (rows (t .cells) (t .count)) s trace e → Tested t trace
-tested {t} s e c (some, most, path) = record {
-  sound = c;
-  handed = (sound-valid t c .0, record { some = some; most = most; start = s; end = e; path = path });
-}
+module _ {n : ℕ} {a b : Transition} (good : All (InRange n) (a ∷ b ∷ [])) (s₀ : List ℕ) where
+  abbrev both : List Transition
+  both = a ∷ b ∷ []
 
-module _ {t : Table} {trace : List ℕ} (h : Tested t trace) where
-  abbrev tr : List Transition
-  tr = stepsIn t trace
+  says : {answer : Fields} → PairSays a b answer → (s : List ℕ) × TraceSays both (s ≡ s₀) (λ x. s ≡ over x s₀) answer
+  says (inl (e, none)) = (
+    s₀,
+    says-steady e (λ x.
+        let c = turning-law good .0 x in
+        let p = only-pair (c .0) (c .1) (criterion-is both (c .0) (c .1) .0 (c .2)) in
+        omega (arith, none (p .2))) refl,
+  )
+  says (inr (e, above, below)) =
+      let t : InTicks both 0 1 = record { ordered = omega arith; inside = omega arith; above = omega arith; below = omega arith } in
+      let c : Criterion both 0 1 = criterion-is both 0 1 .1 t in (
+        over (shownStamps both 0 1) s₀,
+        says-turning {k = 0} {m = 1} e (record {
+          turning = turning-law good .1 (0, 1, c);
+          pair = record {
+            pair = turns-law good 0 1 .1 c;
+            least = λ x y o. let p = only-pair x y (criterion-is both x y .0 (turns-law good x y .0 o)) in inr (omega arith, omega arith);
+          };
+          shows = words-show good 0 1 c;
+        }) refl,
+      )
 
-  module _ (start : ℕ) (stamps : List ℕ) (e : length stamps ≡ length trace) where
-    abbrev given : List Response
-    given = responsesOf tr start stamps
+judges-alone : {m : Machine} {trace : List ℕ} {a b : Transition} {answer : Fields} → Ready m trace → steps (m .transitions) trace ≡ a ∷ b ∷ []
+    → PairSays a b answer → Holds (judged m trace answer)
+judges-alone {m = m} {trace = trace} {answer = answer} r e p s₀ room =
+    let s = says (rw e at (handed-ranged m trace (r .valid) (r .handed))) s₀ p in
+    let y : TraceOutcome m trace s₀ answer (s .0) =
+    answers (valid-passes m (r .valid) (verdict.own m trace s₀) (r .handed, (room, tt))) (rw e (s .1)) in
+    (s .0, y, λ f x o. answered-only (λ e k l. (e, k ∙ sym l)) (λ d e. verdict.says-only (λ k l. k ∙ sym l) (λ s p q. p ∙ sym q) d e) o y)
 
-    converts : Conversion tr (wordFrom tr start stamps) given
-    unfolding responsesOf
-    converts = conversion-exists tr (wordFrom tr start stamps)
+-- of the traces from the initial state only this one has two steps, and it has no third
+abbrev pub OnlyTwo : Machine → List ℕ → Type 0
+OnlyTwo m trace = (l : List ℕ) (e k n : ℕ) → Trace (m .transitions) (m .initial) l e → k < n → n < length l → (l ≡ trace) × (k ≡ 0) × (n ≡ 1)
 
-    filled : (f : Response → ℕ) (l : List ℕ) → map f given ≡ l → length l ≡ length trace
-    filled f l q = sym (ap length q) ∙ length-map given f ∙ conversion-length converts ∙ length-steps-in t trace
+-- what is so of a machine that doesn't split: no walk turns, or a single trace has two steps, and they turn
+abbrev pub WalksSay : Machine → Fields → List ℕ → List ℕ → Type 0
+WalksSay m answer trace stamps =
+    let tr : List Transition = steps (m .transitions) trace in
+    ((answer ≡ fields 0 0 0 0) × (trace ≡ []) × (stamps ≡ []) × ((i : ℕ) → WalkTurns m i → ⊥))
+    ⊎ ((answer ≡ fields 257 1 2 2) × (stamps ≡ shownStamps tr 0 1) × ((e : ℕ) × Trace (m .transitions) (m .initial) trace e) × (length trace ≡ 2)
+    × InTicks tr 0 1 × OnlyTwo m trace)
 
-    replays : (answer : Replayed) (os ds : List ℕ) → Replays tr start stamps answer os ds
-        → (o₀ d₀ : List ℕ) → length trace ≤ length o₀ → length trace ≤ length d₀
-        → ReplayOutcome t trace start stamps o₀ d₀ answer (over os o₀) (over ds d₀)
-    unfolding wordFrom
-    replays Played os ds (fits, eo, ed) o₀ d₀ ho hd =
-        let lo : length os ≡ length trace = filled (λ x. x .step) os eo in
-        let ld : length ds ≡ length trace = filled (λ x. x .time) ds ed in
-        record {
-          tested = passes-all t trace stamps o₀ d₀ (h .sound) (h .handed) e ho hd;
-          activates = beside-both tr (spelled tr (gapsFrom start stamps)) fits;
-          responses = given;
-          converts = converts;
-          orders = rw (eo, lo);
-          dues = rw (ed, ld);
-        }
-    replays (Refused r) os ds (outside, eo, ed) o₀ d₀ ho hd =
-        record { why = inr (passes-all t trace stamps o₀ d₀ (h .sound) (h .handed) e ho hd, outside); order-kept = rw eo; due-kept = rw ed }
-
-  module _ {a b : Transition} (is : tr ≡ a ∷ b ∷ []) (s₀ : List ℕ) (room : 2 * length trace ≤ length s₀) where
-    same : named (t .cells) trace ≡ a ∷ b ∷ []
-    same = named-in t trace (h .handed .1) (h .handed .0) ∙ is
-
-    judges : (answer : OnTrace) → Judges a b answer → (s : List ℕ) × TraceOutcome t trace s₀ answer s
-    judges Steady c = (s₀, steady h s₀ room (rw same (λ k m x. let p = only-pair k m x in omega (arith, c (p .2)))))
-    judges (Turning k m) (above, below, first, second) =
-        let c : Criterion (a ∷ b ∷ []) 0 1 = record { ordered = omega arith; inside = omega arith; above = omega arith; below = omega arith } in
-        let s : List ℕ = wordsLeft (t .cells) trace 0 1 s₀ in
-        (s, rw (first, second) (turning h s₀ room 0 1 s (rw same (c, λ i j x. let p = only-pair i j x in inr (omega arith, omega arith))) refl))
-    judges (Unjudged r) c = absurd c
-
--- a table that doesn't split, and memory of enough places
-module _ (t : Table) (sound : checkOf t ≡ Sound) (unsplit : (i j : ℕ) → SplitPair (machineOf t) i j → ⊥) (l₀ s₀ : List ℕ)
-    (a : 270 ≤ length l₀) (b : 540 ≤ length s₀) where
-  abbrev m : Machine
-  m = machineOf t
-
-  valid : Valid m
-  valid = sound-valid t sound .1
-
-  passes : Passes (tableTests t l₀ s₀)
-  passes = sound-passes t (drop 3 (tableTests t l₀ s₀)) sound ((a, b), tt)
-
+-- a machine that doesn't split, and memory of enough places
+module _ {m : Machine} (valid : Valid m) (unsplit : (i j : ℕ) → SplitPair m i j → ⊥) (l₀ s₀ : List ℕ) where
   whole : Splits m → ⊥
   whole x = let p = split-law m valid .0 x in unsplit (p .0) (p .1) (p .2)
 
-  -- the turn that the model shows for the walk: only the expected trace has two steps
-  answers : (k n : ℕ) (trace stamps : List ℕ) → Expects m (TurningTable k n) trace stamps → AnswersTurning m l₀ s₀ k n (over trace l₀) (over stamps s₀)
-  answers k n trace stamps (some, two, f, g, es, len) =
-      let s : ShownTurn m (some .0) = turn-shown m valid (some .1) in
-      let p = two (s .trace) (s .end) (s .k) (s .last) (s .path) (s .meets .ordered) (omega (arith, s .ends)) in
-      let tr : List Transition = steps (m .transitions) trace in
-      record {
-        only = record { unsplit = whole; turns = table-walk-law m valid .1 some };
-        shown = s .trace;
-        end = s .end;
-        path = s .path;
-        few = s .few;
-        k = s .k;
-        last = s .last;
-        first-step = omega (arith, p .1);
-        second-step = omega (arith, p .2);
-        ends = s .ends;
-        lowest = λ j f.
-            let q = two (f .trace) (f .end) (f .k) (f .later) (f .path) (f .turns .early .ordered) (rw length-steps at (f .turns .early .inside)) in
-            let e : getD (s .trace) (s .k) 0 ≡ j = cc (p .0, p .1, q .0, q .1, f .here) in
-            omega arith;
-        earliest = λ x h. absurd (omega (arith, p .1));
-        turns = turns-law (trace-ranged (m .transitions) (valid .ranged) (m .initial) (s .end) (s .trace) (s .path)) (s .k) (s .last) .1 (s .meets);
-        shows = s .shows;
-        traced = cc (p .0);
-        stamped = cc (append-assoc (stampsOf (lateWord tr)) (stampsOf (earlyWord tr 0 1)) (drop (length stamps) s₀), length-steps (m .transitions) trace);
-      }
+  abbrev Told : Fields → List ℕ → List ℕ → Type 0
+  Told f l s = TableSays m ((l ≡ l₀) × (s ≡ s₀)) (λ x y. (l ≡ over x l₀) × (s ≡ over y s₀)) f
 
-  allowed : (answer : OnTable) (trace stamps : List ℕ) → Expects m answer trace stamps → TableOutcome t l₀ s₀ answer (over trace l₀) (over stamps s₀)
-  allowed Strict trace stamps (none, el, es) =
-      (passes, record { unsplit = whole; steady = λ x. let w = table-walk-law m valid .0 x in none (w .0) (w .1) }, rw el, rw es)
-  allowed (TurningTable k n) trace stamps c = (passes, answers k n trace stamps c)
-  allowed (Split i j n) trace stamps c = absurd c
-  allowed (RefusedTable r) trace stamps c = absurd c
+  module _ (trace : List ℕ) (e : ℕ) (path : Trace (m .transitions) (m .initial) trace e) (t : InTicks (steps (m .transitions) trace) 0 1) where
+    good : All (InRange (m .states)) (steps (m .transitions) trace)
+    good = trace-ranged (m .transitions) (valid .ranged) (m .initial) e trace path
 
-  -- every outcome that is allowed for a table is the one that its case expects
-  told : (answer : OnTable) (trace stamps : List ℕ) → Expects m answer trace stamps → (r : OnTable) (l s : List ℕ) → TableOutcome t l₀ s₀ r l s
-      → (r ≡ answer) × (l ≡ over trace l₀) × (s ≡ over stamps s₀)
-  told answer trace stamps c (RefusedTable r) l s x = absurd (passes-fails (tableTests t l₀ s₀) r passes (x .0))
-  told answer trace stamps c (Split i j n) l s x = absurd (unsplit i j (x .1 .pair .pair))
-  told Strict trace stamps (none, el, es) Strict l s x = (refl, rw el (x .2), rw es (x .3))
-  told Strict trace stamps (none, el, es) (TurningTable k n) l s x =
-      let w = table-walk-law m valid .0 (x .1 .only .turns) in absurd (none (w .0) (w .1))
-  told (TurningTable k n) trace stamps c Strict l s x = absurd (x .1 .steady (table-walk-law m valid .1 (c .0)))
-  told (TurningTable k n) trace stamps (some, two, f, g, es, len) (TurningTable k' n') l s (_, y) =
-      let p = two (y .shown) (y .end) (y .k) (y .last) (y .path) (y .turns .early .ordered) (omega (arith, y .ends)) in
-      let tr : List Transition = steps (m .transitions) trace in
-      (cc, cc, cc (append-assoc (stampsOf (lateWord tr)) (stampsOf (earlyWord tr 0 1)) (drop (length stamps) s₀), length-steps (m .transitions) trace))
+    meets : Criterion (steps (m .transitions) trace) 0 1
+    meets = criterion-is (steps (m .transitions) trace) 0 1 .1 t
+
+    turns : OnlyTurns m
+    turns = record { unsplit = whole; turns = record { trace = trace; end = e; path = path; turning = turning-law good .1 (0, 1, meets) } }
+
+    shows : length trace ≡ 2 → OnlyTwo m trace → ShowsTurning m trace 0 1
+    shows n only = record {
+      only = turns;
+      end = e;
+      path = path;
+      few = omega arith;
+      ends = n;
+      lowest = λ i f.
+          let q = only (f .trace) (f .end) (f .k) (f .later) (f .path) (f .turns .early .ordered) (rw length-steps at (f .turns .early .inside)) in
+          let z : getD trace 0 0 ≡ i = cc (q .0, q .1, f .here) in
+          omega arith;
+      earliest = λ x h. absurd (omega arith);
+      turns = turns-law good 0 1 .1 meets;
+      shows = words-show good 0 1 meets;
+    }
+
+  table-says : {answer : Fields} {trace stamps : List ℕ} → WalksSay m answer trace stamps → Told answer (over trace l₀) (over stamps s₀)
+  table-says (inl (z, el, es, none)) =
+      says-strict z (record { unsplit = whole; steady = λ x. let w = table-walk-law m valid .0 x in none (w .0) (w .1) }) (rw el, rw es)
+  table-says {trace = trace} (inr (z, es, (e, path), n, t, only)) =
+      says-shown {shown = trace} {k = 0} {last = 1} z (shows trace e path t n only) (refl, rw es)
+
+  -- every answer that is allowed is the one that the case expects
+  told : {answer f : Fields} {trace stamps l s : List ℕ} → WalksSay m answer trace stamps → Told f l s
+      → (f ≡ answer) × (l ≡ over trace l₀) × (s ≡ over stamps s₀)
+  told c (says-split z p l) = absurd (whole (p .splits))
+  told (inl (q, el, es, none)) (says-strict z p k) = (z ∙ sym q, rw el (k .0), rw es (k .1))
+  told (inl (q, el, es, none)) (says-shown z p l) = let w = table-walk-law m valid .0 (p .only .turns) in absurd (none (w .0) (w .1))
+  told {trace = trace} (inr (q, es, (e, path), n, t, only)) (says-strict z p k) = absurd (p .steady (turns trace e path t .turns))
+  told (inr (q, es, x, n, t, only)) (says-shown {shown = shown} {k = k} {last = last} z p l) =
+      let o = only shown (p .end) k last (p .path) (p .turns .early .ordered) (omega (arith, p .ends)) in
+      let w = rw (o .0, o .1, o .2) at l in
+      ((rw (o .1, o .2) at z) ∙ sym q, w .0, rw es (w .1))
+
+  table-alone : {answer : Fields} {trace stamps : List ℕ} → 270 ≤ length l₀ → 540 ≤ length s₀ → WalksSay m answer trace stamps
+      → Alone (TableOutcome m l₀ s₀) answer (over trace l₀) (over stamps s₀)
+  table-alone {answer = answer} {trace = trace} {stamps = stamps} a b c =
+      let y : TableOutcome m l₀ s₀ answer (over trace l₀) (over stamps s₀) =
+      answers (valid-passes m valid (drop 3 (tableTests m l₀ s₀)) ((a, b), tt)) (table-says c) in
+      (y, λ f l s x. answered-only (λ e k o. (e, k .0 ∙ sym (o .0), k .1 ∙ sym (o .1))) (λ d e. told c d) x y)
+
+-- what is left to compute of a case
+abbrev pub Computed : Case → Type 0
+Computed (replayed m trace start stamps answer order due) =
+    Ready m trace × (length stamps ≡ length trace) × GapsSay (steps (m .transitions) trace) start stamps answer order due
+Computed (judged m trace answer) =
+    let tr : List Transition = steps (m .transitions) trace in
+    Ready m trace × (tr ≡ at tr 0 ∷ at tr 1 ∷ []) × PairSays (at tr 0) (at tr 1) answer
+Computed (tabled m answer trace stamps) = Valid m × ((i j : ℕ) → SplitPair m i j → ⊥) × WalksSay m answer trace stamps
+Computed (sized c) = (states initial : ℕ) → Size states initial → Computed (c states initial)
 
 pub computed-holds : (c : Case) → Computed c → Holds c
-computed-holds (replayed t trace start stamps answer os ds) (h, e, c) = λ o₀ d₀ ho hd.
-    let y = replays h start stamps e answer os ds c o₀ d₀ ho hd in
-    (y, λ r o d x. replay.outcome-only t trace start stamps o₀ d₀ r answer o d _ _ x y)
-computed-holds (numbered r number place) c = c
-computed-holds (judged t trace answer) (h, is, c) = λ s₀ room.
-    let y = judges h is s₀ room answer c in
-    (y, λ r s x. verdict.outcome-only t trace s₀ r answer s (y .0) x (y .1) .0)
-computed-holds (tabled t answer trace stamps) (sound, unsplit, c) = λ l₀ s₀ a b.
-    (allowed t sound unsplit l₀ s₀ a b answer trace stamps c, told t sound unsplit l₀ s₀ a b answer trace stamps c)
+computed-holds (replayed m trace start stamps answer os ds) (r, e, g) = λ o₀ d₀ a b. replays-alone r start stamps e o₀ d₀ a b g
+computed-holds (judged m trace answer) (r, e, p) = judges-alone r e p
+computed-holds (tabled m answer trace stamps) (v, unsplit, c) = λ l₀ s₀ a b. table-alone v unsplit l₀ s₀ a b c
 computed-holds (sized f) c = λ states initial h. computed-holds (f states initial) (c states initial h)

@@ -1,33 +1,23 @@
 -- 01, "Both sides of each limit": the cases marked P as data, and what it means that a call answers one as it says.
 use mathlib.Core.Path.{_≡_}
-use mathlib.Core.List.{List, [], _∷_, _++_}
+use mathlib.Core.List.{List, [], _∷_}
 use Prim.Native.Nat.{ℕ, suc, _*_, _≤_, _<_}
-use lib.ListN.{length, drop}
+use lib.ListN.{length}
+use Rattle.model.specs.Answers.{Fields, fields}
+use Rattle.model.specs.Lists.{over}
 use Rattle.model.specs.Table.{Transition, Machine}
-use Rattle.table.specs.declared.Table.{Table}
-use Rattle.table.specs.declared.Refusal.{Refusal}
-use Rattle.table.specs.declared.Refusal.the-variants.{Outside}
-use Rattle.table.specs.Refusal.{refusalNumber, refusalPlace}
-use Rattle.table.specs.Rows.{tableOf}
-use Rattle.replay.specs.declared.Replayed.{Replayed}
-use Rattle.replay.specs.declared.Replayed.the-variants.{Played, Refused}
 use Rattle.replay.specs.Play.{ReplayOutcome}
-use Rattle.verdict.specs.declared.OnTrace.{OnTrace}
-use Rattle.verdict.specs.declared.OnTrace.the-variants.{Steady, Turning}
 use Rattle.verdict.specs.OnTrace.{TraceOutcome}
-use Rattle.table_verdict.specs.declared.OnTable.{OnTable}
-use Rattle.table_verdict.specs.declared.OnTable.the-variants.{Strict, Turning as TurningTable}
 use Rattle.table_verdict.specs.OnTable.{TableOutcome}
 
+-- a call on a table value that stands for the machine, and its answer by number and values
 pub data Case : Type 0 where
-  -- table, trace, start, stamps; the answer, and what stands first in the lent memory: the steps' order, their due times
-  replayed : Table → List ℕ → ℕ → List ℕ → Replayed → List ℕ → List ℕ → Case
-  -- a refusal; its number and its place
-  numbered : Refusal → ℕ → ℕ → Case
-  -- table, trace; the answer
-  judged : Table → List ℕ → OnTrace → Case
-  -- table; the answer, and what stands first in the lent memory: the shown trace, its stamps
-  tabled : Table → OnTable → List ℕ → List ℕ → Case
+  -- machine, trace, start, stamps; the answer, and what stands first in the lent memory: the steps' order, their due times
+  replayed : Machine → List ℕ → ℕ → List ℕ → Fields → List ℕ → List ℕ → Case
+  -- machine, trace; the answer
+  judged : Machine → List ℕ → Fields → Case
+  -- machine; the answer, and what stands first in the lent memory: the shown trace, its stamps
+  tabled : Machine → Fields → List ℕ → List ℕ → Case
   -- a case for every number of states and every initial state
   sized : (ℕ → ℕ → Case) → Case
 
@@ -35,24 +25,20 @@ pub data Case : Type 0 where
 abbrev pub Size : ℕ → ℕ → Type 0
 Size states initial = (1 ≤ states) × (states ≤ 32) × (initial < states)
 
--- what a call gives, then the memory as it was
-abbrev pub over : List ℕ → List ℕ → List ℕ
-over given lent = given ++ drop (length given) lent
+-- the outcome is allowed, and no other: neither in the answer nor in what is left in the two lent memories
+abbrev pub Alone : (Fields → List ℕ → List ℕ → Type 0) → Fields → List ℕ → List ℕ → Type 0
+Alone Allowed f a b = Allowed f a b × ((g : Fields) (x y : List ℕ) → Allowed g x y → (g ≡ f) × (x ≡ a) × (y ≡ b))
 
 -- whatever memory of enough places is lent, the call is allowed to answer so, and in no other way
 abbrev pub Holds : Case → Type 0
-Holds (replayed t trace start stamps answer order due) =
+Holds (replayed m trace start stamps answer order due) =
     (o₀ d₀ : List ℕ) → length trace ≤ length o₀ → length trace ≤ length d₀
-    → ReplayOutcome t trace start stamps o₀ d₀ answer (over order o₀) (over due d₀)
-    × ((r : Replayed) (o d : List ℕ) → ReplayOutcome t trace start stamps o₀ d₀ r o d → (r ≡ answer) × (o ≡ over order o₀) × (d ≡ over due d₀))
-Holds (numbered r number place) = (refusalNumber r ≡ number) × (refusalPlace r ≡ place)
-Holds (judged t trace answer) =
+    → Alone (ReplayOutcome m trace start stamps o₀ d₀) answer (over order o₀) (over due d₀)
+Holds (judged m trace answer) =
     (s₀ : List ℕ) → 2 * length trace ≤ length s₀
-    → ((s : List ℕ) × TraceOutcome t trace s₀ answer s) × ((r : OnTrace) (s : List ℕ) → TraceOutcome t trace s₀ r s → r ≡ answer)
-Holds (tabled t answer trace stamps) =
-    (l₀ s₀ : List ℕ) → 270 ≤ length l₀ → 540 ≤ length s₀
-    → TableOutcome t l₀ s₀ answer (over trace l₀) (over stamps s₀)
-    × ((r : OnTable) (l s : List ℕ) → TableOutcome t l₀ s₀ r l s → (r ≡ answer) × (l ≡ over trace l₀) × (s ≡ over stamps s₀))
+    → (s : List ℕ) × TraceOutcome m trace s₀ answer s × ((f : Fields) (x : List ℕ) → TraceOutcome m trace s₀ f x → (f ≡ answer) × (x ≡ s))
+Holds (tabled m answer trace stamps) =
+    (l₀ s₀ : List ℕ) → 270 ≤ length l₀ → 540 ≤ length s₀ → Alone (TableOutcome m l₀ s₀) answer (over trace l₀) (over stamps s₀)
 Holds (sized c) = (states initial : ℕ) → Size states initial → Holds (c states initial)
 
 -- from a state to the next
@@ -79,28 +65,35 @@ bare states initial = record { states = states; initial = initial; transitions =
 abbrev pub short : Machine
 short = record { states = 3; initial = 0; transitions = step 0 1 1 2 9 ∷ step 1 2 3 4 5 ∷ [] }
 
+-- 0: played, steady or strict
+abbrev pub fine : Fields
+fine = fields 0 0 0 0
+
+-- "turning 1 2", and the trace has 2 steps
+abbrev pub turning : Fields
+turning = fields 257 1 2 2
+
 -- the trace of 001 from start stamp 0
-abbrev onSource : List ℕ → Replayed → List ℕ → List ℕ → Case
-onSource stamps = replayed (tableOf source) (0 ∷ 1 ∷ 2 ∷ []) 0 stamps
+abbrev onSource : List ℕ → Fields → List ℕ → List ℕ → Case
+onSource stamps = replayed source (0 ∷ 1 ∷ 2 ∷ []) 0 stamps
 
 -- the trace of two steps, with d of the first
-abbrev onTwo : ℕ → OnTrace → Case
-onTwo d = judged (tableOf (two d)) (0 ∷ 1 ∷ [])
+abbrev onTwo : ℕ → Fields → Case
+onTwo d = judged (two d) (0 ∷ 1 ∷ [])
 
--- D is -2, 0, 3, 4, 5, 6 for d 8, 10, 13, 14, 15, 16; the last due time, 652, is the gap 396 and a tick
+-- "refusal 9, step 1" is 9 with the place 1; D is -2, 0, 3, 4, 5, 6 for d 8, 10, 13, 14, 15, 16; the last due time, 652, is the gap 396 and a tick
 abbrev pub cases : List Case
 cases =
-    onSource (2560 ∷ 6912 ∷ 10496 ∷ []) Played (1 ∷ 3 ∷ 2 ∷ []) (12800 ∷ 13056 ∷ 14592 ∷ []) ∷
-    onSource (3840 ∷ 8192 ∷ 11008 ∷ []) Played (3 ∷ 1 ∷ 2 ∷ []) (13568 ∷ 14080 ∷ 15872 ∷ []) ∷
-    onSource (5888 ∷ 6912 ∷ 10496 ∷ []) (Refused (Outside 1)) [] [] ∷
-    numbered (Outside 1) 9 1 ∷
-    onTwo 8 Steady ∷
-    onTwo 10 Steady ∷
-    onTwo 13 Steady ∷
-    onTwo 14 (Turning 1 2) ∷
-    onTwo 15 (Turning 1 2) ∷
-    onTwo 16 Steady ∷
-    replayed (tableOf one) (0 ∷ []) 4294967000 (100 ∷ []) Played (1 ∷ []) (652 ∷ []) ∷
-    sized (λ states initial. tabled (tableOf (bare states initial)) Strict [] []) ∷
-    tabled (tableOf short) (TurningTable 1 2) (0 ∷ 1 ∷ []) (512 ∷ 1536 ∷ 512 ∷ 1281 ∷ []) ∷
+    onSource (2560 ∷ 6912 ∷ 10496 ∷ []) fine (1 ∷ 3 ∷ 2 ∷ []) (12800 ∷ 13056 ∷ 14592 ∷ []) ∷
+    onSource (3840 ∷ 8192 ∷ 11008 ∷ []) fine (3 ∷ 1 ∷ 2 ∷ []) (13568 ∷ 14080 ∷ 15872 ∷ []) ∷
+    onSource (5888 ∷ 6912 ∷ 10496 ∷ []) (fields 9 1 0 0) [] [] ∷
+    onTwo 8 fine ∷
+    onTwo 10 fine ∷
+    onTwo 13 fine ∷
+    onTwo 14 turning ∷
+    onTwo 15 turning ∷
+    onTwo 16 fine ∷
+    replayed one (0 ∷ []) 4294967000 (100 ∷ []) fine (1 ∷ []) (652 ∷ []) ∷
+    sized (λ states initial. tabled (bare states initial) fine [] []) ∷
+    tabled short turning (0 ∷ 1 ∷ []) (512 ∷ 1536 ∷ 512 ∷ 1281 ∷ []) ∷
     []

@@ -1,63 +1,46 @@
 -- Two outcomes that a call on bytes allows are equal.
-use mathlib.Core.Path.{_≡_, refl, sym, ap, _∙_}
-use mathlib.Core.Logic.{dite}
+use mathlib.Core.Path.{_≡_, sym, _∙_}
 use mathlib.Core.List.{List}
-use Prim.Native.Nat.{ℕ, _≤_}
-use native.Mathlib.Decide.{decLt}
-use native.Mathlib.Omega.{arith}
-use lib.ListN.{length}
-use Rattle.model.specs.Table.{Machine}
-use Rattle.model.specs.Stamps.{gapsFrom}
-use Rattle.model.proofs.Paths.{length-steps}
-use Rattle.model.proofs.Conversion.{conversion-only}
-use Rattle.wire.specs.Bytes.{wholes}
-use Rattle.table.specs.declared.Refusal.{Refusal}
+use Prim.Native.Nat.{ℕ}
+use Rattle.model.specs.Answers.{Fields}
 use Rattle.table.specs.declared.Written.{Written}
 use Rattle.table.specs.File.{readFile}
-use Rattle.table.specs.Tests.{Test}
+use Rattle.table.specs.Write.{writtenFields}
+use Rattle.table.proofs.RefusalLaws.{written-only}
+use Rattle.table.proofs.TestLaws.{answered-only}
 use Rattle.replay.specs.declared.Replayed.{Replayed}
-use Rattle.replay.specs.declared.Replayed.the-variants.{Played, Refused}
-use Rattle.replay.specs.Play.{Cause}
-use Rattle.replay.proofs.OutcomeLaws.{cause-only, no-cause}
-use Rattle.on_bytes.specs.Replays.{bytesTests, wordIn, PlaysBytes, ReplayOnMachine, ReplayBytesOutcome}
+use Rattle.replay.specs.Play.{replayedFields}
+use Rattle.replay.proofs.OutcomeLaws.{replayed-only, play-only}
+use Rattle.on_bytes.specs.Replays.{ReplayBytesOutcome}
 use Rattle.on_bytes.specs.Rewrites.{RewriteBytesOutcome}
-use Rattle.places.specs.Places.{pathIn}
-use Rattle.places.proofs.PlaceLaws.{length-wholes}
 use Rattle.places.proofs.ReadingLaws.{on-file}
 
-pub rewrite-bytes-only : (file out₀ : List ℕ) (a b : Written) (x y : List ℕ) → RewriteBytesOutcome file out₀ a x → RewriteBytesOutcome file out₀ b y
-    → (a ≡ b) × (x ≡ y)
-rewrite-bytes-only file out₀ a b x y =
-    on-file (readFile file) _ _ _ _ (λ r p q. (p .0 ∙ sym (q .0), p .1 ∙ sym (q .1)))
-    (λ m p q. dite (decLt (length out₀) (length file))
-    (λ h. (p .short h .0 ∙ sym (q .short h .0), p .short h .1 ∙ sym (q .short h .1)))
-    (λ n.
-    let h : length file ≤ length out₀ = omega arith in
-    (p .fits h .0 ∙ sym (q .fits h .0), p .fits h .1 ∙ sym (q .fits h .1))))
+-- by number and values, then as answers
+pub rewrite-fields-only : (file out₀ : List ℕ) (f g : Fields) (x y : List ℕ) → RewriteBytesOutcome file out₀ f x
+    → RewriteBytesOutcome file out₀ g y → (f ≡ g) × (x ≡ y)
+rewrite-fields-only file out₀ f g x y =
+    on-file (readFile file) _ _ _ _ (λ n p s t. (s .0 ∙ sym (t .0), s .1 ∙ sym (t .1)))
+    (λ m. answered-only (λ e k l. (e, k ∙ sym l)) (λ d e. (d .0 ∙ sym (e .0), d .1 ∙ sym (e .1))))
 
-module _ (trace : List ℕ) (start : ℕ) (stamps order₀ due₀ : List ℕ) where
-  module _ (m : Machine) where
-    abbrev tests : List Test
-    tests = bytesTests m trace stamps order₀ due₀
+pub rewrite-bytes-only : (file out₀ : List ℕ) (a b : Written) (x y : List ℕ) → RewriteBytesOutcome file out₀ (writtenFields a) x
+    → RewriteBytesOutcome file out₀ (writtenFields b) y → (a ≡ b) × (x ≡ y)
+rewrite-bytes-only file out₀ a b x y p q =
+    let o = rewrite-fields-only file out₀ (writtenFields a) (writtenFields b) x y p q in
+    (written-only a b (o .0), o .1)
 
-    not-both : (r : Refusal) {o d : List ℕ} → Cause tests (pathIn m trace) (gapsFrom start (wholes 4 stamps)) r → PlaysBytes m trace start stamps order₀ due₀ o d → ⊥
-    not-both r c p =
-        let e : length (wholes 4 stamps) ≡ length (pathIn m trace) =
-        length-wholes 4 stamps ∙ p .tested .1 .0 .1 ∙ sym (length-steps (m .transitions) (wholes 2 trace) ∙ length-wholes 2 trace) in
-        no-cause tests (pathIn m trace) start (wholes 4 stamps) r (p .tested) e (p .activates) c
+module _ (trace : List ℕ) (start : ℕ) (stamps order₀ due₀ file : List ℕ) where
+  pub replay-fields-only : (f g : Fields) (o d o' d' : List ℕ) → ReplayBytesOutcome file trace start stamps order₀ due₀ f o d
+      → ReplayBytesOutcome file trace start stamps order₀ due₀ g o' d' → (f ≡ g) × (o ≡ o') × (d ≡ d')
+  replay-fields-only f g o d o' d' =
+      on-file (readFile file) _ _ _ _
+      (λ n p x y. (x .0 ∙ sym (y .0), x .1 ∙ sym (y .1), x .2 ∙ sym (y .2)))
+      (λ m p q.
+      let x = play-only {R = (o ≡ o') × (d ≡ d')} (λ p q. (p .0 ∙ sym (q .0), p .1 ∙ sym (q .1)))
+      (λ l k a b a' b'. (a ∙ sym a', b ∙ sym b')) p q in
+      (x .0, x .1 .0, x .1 .1))
 
-    machine-only : (r s : Replayed) (o d o' d' : List ℕ) → ReplayOnMachine m trace start stamps order₀ due₀ r o d
-        → ReplayOnMachine m trace start stamps order₀ due₀ s o' d' → (r ≡ s) × (o ≡ o') × (d ≡ d')
-    machine-only Played Played o d o' d' a b =
-        let e : a .responses ≡ b .responses = conversion-only (pathIn m trace) (wordIn m trace start stamps) (a .converts) (b .converts) in
-        (refl, a .orders ∙ rw e (sym (b .orders)), a .dues ∙ rw e (sym (b .dues)))
-    machine-only Played (Refused s) o d o' d' a b = absurd (not-both s (b .why) a)
-    machine-only (Refused r) Played o d o' d' a b = absurd (not-both r (a .why) b)
-    machine-only (Refused r) (Refused s) o d o' d' a b =
-        let e : r ≡ s = cause-only tests (pathIn m trace) start (wholes 4 stamps) r s (a .why) (b .why) in
-        (ap Refused e, a .order-kept ∙ sym (b .order-kept), a .due-kept ∙ sym (b .due-kept))
-
-  pub replay-bytes-only : (file : List ℕ) (r s : Replayed) (o d o' d' : List ℕ) → ReplayBytesOutcome file trace start stamps order₀ due₀ r o d
-      → ReplayBytesOutcome file trace start stamps order₀ due₀ s o' d' → (r ≡ s) × (o ≡ o') × (d ≡ d')
-  replay-bytes-only file r s o d o' d' =
-      on-file (readFile file) _ _ _ _ (λ x p q. (p .0 ∙ sym (q .0), p .1 ∙ sym (q .1), p .2 ∙ sym (q .2))) (λ m p q. machine-only m r s o d o' d' p q)
+  pub replay-bytes-only : (r s : Replayed) (o d o' d' : List ℕ) → ReplayBytesOutcome file trace start stamps order₀ due₀ (replayedFields r) o d
+      → ReplayBytesOutcome file trace start stamps order₀ due₀ (replayedFields s) o' d' → (r ≡ s) × (o ≡ o') × (d ≡ d')
+  replay-bytes-only r s o d o' d' x y =
+      let p = replay-fields-only (replayedFields r) (replayedFields s) o d o' d' x y in
+      (replayed-only r s (p .0), p .1, p .2)

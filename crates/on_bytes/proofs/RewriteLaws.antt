@@ -1,25 +1,24 @@
 -- What a table that was read is written as.
-use mathlib.Core.Path.{_≡_}
-use mathlib.Core.List.{List}
-use Prim.Native.Nat.{ℕ}
+use mathlib.Core.Path.{_≡_, sym}
+use mathlib.Core.List.{List, [], _∷_}
+use Prim.Native.Nat.{ℕ, _≤_}
+use lib.ListN.{length}
+use Rattle.model.specs.Answers.{Fields}
+use Rattle.model.specs.Table.{Machine}
 use Rattle.wire.specs.Bytes.{Bytes}
-use Rattle.table.specs.declared.Reading.{Reading}
-use Rattle.table.specs.declared.Checked.the-variants.{Sound}
-use Rattle.table.specs.declared.Written.{Written}
-use Rattle.table.specs.Rows.{tableOf}
-use Rattle.table.specs.File.{readFile, readingOf}
+use Rattle.table.specs.Tests.{unless, refuses, answers}
+use Rattle.table.specs.File.{readFile, machine, fileOf}
 use Rattle.table.specs.Write.{WriteOutcome}
-use Rattle.table.proofs.FileLaws.{read-then-write, read-then-short}
-use Rattle.places.proofs.ReadingLaws.{sound-machine}
+use Rattle.table.proofs.FileLaws.{sound}
+use Rattle.table.proofs.TestLaws.{valid-fails}
 use Rattle.on_bytes.specs.Rewrites.{Rewritten}
 
--- the table that was read, written: the file, if there is room
-pub rewritten : (l : List ℕ) (a : Reading) → a ≡ readingOf (readFile l) → a .answer ≡ Sound → Bytes l
-    → (out₀ out : List ℕ) (answer : Written) → WriteOutcome (a .table) out₀ answer out → Rewritten l out₀ answer out
-rewritten l a read e b out₀ out answer o =
-    let k = sound-machine l a read e in
-    let w : WriteOutcome (tableOf (k .0)) out₀ answer out = rw (k .2) at o in
-    record {
-      fits = λ h. read-then-write l (k .0) b (k .1) out₀ answer out w h;
-      short = λ h. read-then-short l (k .0) b (k .1) out₀ answer out w h;
-    }
+-- the machine that was read, written: the file, if there is room
+pub rewritten : (l : List ℕ) (m : Machine) → readFile l ≡ machine m → Bytes l → (out₀ out : List ℕ) (f : Fields) → WriteOutcome m out₀ f out
+    → Rewritten l out₀ f out
+rewritten l m e b out₀ out f (answers p w) =
+    let same : fileOf m ≡ l = sym (sound l m b e .1) in
+    answers (rw same at (p .1 .1 .1)) (rw same at (w .counts), rw same at (w .is))
+rewritten l m e b out₀ out f (refuses {n = n} {p = p} q x k) =
+    let same : fileOf m ≡ l = sym (sound l m b e .1) in
+    refuses q (rw same at (valid-fails m (sound l m b e .0) (unless 8 (length (fileOf m) ≤ length out₀) ∷ []) n p .0 x)) k

@@ -5,9 +5,10 @@ use Prim.Native.Nat.{ℕ, _/_, min}
 use lib.ListN.{length, take}
 use Rattle.wire.specs.Bytes.{bytes, placed}
 use Rattle.table.specs.declared.Table.{Table}
+use Rattle.table.specs.Rows.{machineOf}
 use Rattle.replay.specs.declared.Replayed.{Replayed}
 use Rattle.replay.specs.declared.Replayed.the-variants.{Played, Refused}
-use Rattle.replay.specs.Play.{ReplayOutcome}
+use Rattle.replay.specs.Play.{replayedFields, ReplayOutcome}
 
 -- the used places written back: n numbers of o, at the front of the bytes l
 abbrev pub wroteBack : ℕ → Replayed → ℕ → List ℕ → List ℕ → List ℕ
@@ -22,6 +23,6 @@ pub record Called (t : Table) (trace : List ℕ) (start : ℕ) (stamps order₀ 
   pub d : List ℕ
   pub order-room : length o₀ ≡ min (length order₀ / 2) 512
   pub due-room : length d₀ ≡ min (length due₀ / 4) 512
-  pub outcome : ReplayOutcome t trace start stamps o₀ d₀ answer o d
+  pub outcome : ReplayOutcome (machineOf t) trace start stamps o₀ d₀ (replayedFields answer) o d
   pub orders : order ≡ wroteBack 2 answer (length trace) o order₀
   pub dues : due ≡ wroteBack 4 answer (length trace) d due₀

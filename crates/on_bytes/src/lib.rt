@@ -2,6 +2,8 @@
 use replay::Replayed;
 use table::Checked;
 use table::Written;
+ghost use Rattle.table.specs.Write.{writtenFields};
+ghost use Rattle.replay.specs.Play.{replayedFields};
 ghost use Rattle.on_bytes.specs.Replays.{ReplayBytesOutcome};
 ghost use Rattle.on_bytes.specs.Rewrites.{RewriteBytesOutcome};
 
@@ -9,7 +11,7 @@ mod replays;
 
 // Reads a table file and writes it.
 pub fn rewrite_bytes(file: &[u8], out: &mut [u8]) -> Written
-    ensures { λ r. ⌜ RewriteBytesOutcome (now (file .entry)) (now (out .entry)) r (now (out .exit)) ⌝ }
+    ensures { λ r. ⌜ RewriteBytesOutcome (now (file .entry)) (now (out .entry)) (writtenFields r) (now (out .exit)) ⌝ }
 {
     let a = table::read_table(file);
     let read = a.answer;
@@ -28,7 +30,9 @@ pub fn replay_bytes(
     order: &mut [u8],
     due: &mut [u8],
 ) -> Replayed
-    ensures { λ r. ⌜ ReplayBytesOutcome (now (file .entry)) (now (trace .entry)) start (now (stamps .entry)) (now (order .entry)) (now (due .entry)) r (now (order .exit)) (now (due .exit)) ⌝ }
+    ensures { λ r. ⌜ ReplayBytesOutcome
+        (now (file .entry)) (now (trace .entry)) start (now (stamps .entry)) (now (order .entry)) (now (due .entry))
+        (replayedFields r) (now (order .exit)) (now (due .exit)) ⌝ }
 {
     let a = table::read_table(file);
     let read = a.answer;

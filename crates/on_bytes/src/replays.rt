@@ -3,9 +3,9 @@ use replay::Replayed;
 use table::Table;
 ghost use mathlib.Core.Path.{_≡_};
 ghost use lib.ListN.{length};
-ghost use Rattle.table.specs.declared.Checked.the-variants.{Sound};
+ghost use Rattle.model.specs.Table.{Valid};
 ghost use Rattle.table.specs.Rows.{machineOf};
-ghost use Rattle.table.specs.Check.{checkOf};
+ghost use Rattle.replay.specs.Play.{replayedFields};
 ghost use Rattle.on_bytes.specs.Replays.{ReplayOnMachine};
 ghost use Rattle.on_bytes.specs.ValueCall.{Called};
 
@@ -21,7 +21,9 @@ fn call(
     times: &mut [u32],
 ) -> Replayed
     requires { ⌜ (length (now ranked) ≡ 512) × (length (now times) ≡ 512) ⌝ }
-    ensures { λ r. ⌜ Called t (now (trace .entry)) start (now (stamps .entry)) (now (order .entry)) (now (due .entry)) r (now (order .exit)) (now (due .exit)) ⌝ }
+    ensures { λ r. ⌜ Called
+        t (now (trace .entry)) start (now (stamps .entry)) (now (order .entry)) (now (due .entry))
+        r (now (order .exit)) (now (due .exit)) ⌝ }
 {
     let room = wire::lesser(order.len() / 2, 512);
     let late = wire::lesser(due.len() / 4, 512);
@@ -50,8 +52,10 @@ pub(crate) fn replay_on(
     order: &mut [u8],
     due: &mut [u8],
 ) -> Replayed
-    requires { ⌜ checkOf t ≡ Sound ⌝ }
-    ensures { λ r. ⌜ ReplayOnMachine (machineOf t) (now (trace .entry)) start (now (stamps .entry)) (now (order .entry)) (now (due .entry)) r (now (order .exit)) (now (due .exit)) ⌝ }
+    requires { ⌜ Valid (machineOf t) ⌝ }
+    ensures { λ r. ⌜ ReplayOnMachine
+        (machineOf t) (now (trace .entry)) start (now (stamps .entry)) (now (order .entry)) (now (due .entry))
+        (replayedFields r) (now (order .exit)) (now (due .exit)) ⌝ }
 {
     let mut steps = [0u16; 512];
     let mut marks = [0u32; 512];

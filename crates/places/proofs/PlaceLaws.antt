@@ -8,6 +8,7 @@ use native.Mathlib.Omega.{arith}
 use borrow.Author.Tests.{lt-ltb, le-ltb}
 use lib.ListN.{length, take, drop}
 use lib.Seq.{take-at, take-all, take-length}
+use Rattle.model.specs.Lists.{over}
 use Rattle.model.specs.Table.{Transition}
 use Rattle.model.specs.Trace.{Handed}
 use Rattle.wire.specs.Bytes.{bytes, placed, wholes, taken}
@@ -102,8 +103,14 @@ take-lesser n l {k} h =
     (λ f. let e : k ≡ length l = omega arith in rw (e, take-length l, take-all n l (omega arith)))
 
 -- the used places written back: xs, of which there are n, from the front of what came back
+pub back-over : (w n : ℕ) (xs more l : List ℕ) → length xs ≡ n → n * w ≤ length l → placed l 0 (bytes w (take n (xs ++ more))) ≡ over (bytes w xs) l
+back-over w n xs more l e h =
+    let b : length (bytes w xs) ≡ n * w = length-bytes w xs ∙ ap (λ (k : ℕ). k * w) e in
+    let z : 0 + length (bytes w xs) ≡ length (bytes w xs) = omega arith in
+    rw (take-at xs more n e, placed-fits l 0 (bytes w xs) (omega arith), z)
+
+-- the same by the number of bytes
 pub back : (w n : ℕ) (xs more l : List ℕ) → length xs ≡ n → n * w ≤ length l → placed l 0 (bytes w (take n (xs ++ more))) ≡ bytes w xs ++ drop (w * n) l
 back w n xs more l e h =
-    let b : length (bytes w xs) ≡ n * w = length-bytes w xs ∙ ap (λ (k : ℕ). k * w) e in
-    let d : 0 + length (bytes w xs) ≡ w * n = omega arith in
-    rw (take-at xs more n e, placed-fits l 0 (bytes w xs) (omega arith), d)
+    let d : length (bytes w xs) ≡ w * n = length-bytes w xs ∙ ap (λ (k : ℕ). k * w) e ∙ omega arith in
+    back-over w n xs more l e h ∙ rw d

@@ -8,7 +8,6 @@ use lib.ListN.{length, drop}
 use Rattle.model.specs.Table.{Transition, Machine}
 use Rattle.model.specs.Trace.{Handed, steps}
 use Rattle.wire.specs.Bytes.{wholes}
-use Rattle.table.specs.declared.Refusal.the-variants.{NoTrace}
 use Rattle.table.specs.Tests.{Test, unless}
 
 -- the transitions that a trace in bytes names
@@ -17,7 +16,7 @@ pathIn m trace = steps (m .transitions) (wholes 2 trace)
 
 -- what a trace in bytes is refused for
 abbrev pub traceTest : Machine → List ℕ → Test
-traceTest m trace = unless NoTrace ((length trace % 2 ≡ 0) × Handed (m .transitions) (wholes 2 trace))
+traceTest m trace = unless 6 ((length trace % 2 ≡ 0) × Handed (m .transitions) (wholes 2 trace))
 
 -- the numbers of w bytes in b, if no byte is left over and there are no more than room
 unfoldable pub fitted : ℕ → ℕ → List ℕ → List ℕ

@@ -1,10 +1,9 @@
--- What the test of the gaps knows after i steps, and one step more; the first step outside is the only one.
+-- The tests of the gaps, place by place, and what the loop over them knows after i steps.
 use mathlib.Core.Path.{_≡_, refl, sym, _∙_}
 use mathlib.Core.Bool.{Bool, true, false}
-use mathlib.Core.Logic.{⊎-elim, dite}
-use mathlib.Core.List.{List, _∷_}
-use Prim.Native.Nat.{ℕ, _+_, _≤_, _<_}
-use native.Mathlib.Decide.{decLt}
+use mathlib.Core.Logic.{inl, inr, ⊎-elim, _↔_}
+use mathlib.Core.List.{List, [], _∷_}
+use Prim.Native.Nat.{ℕ, zero, suc, _+_, _≤_, _<_}
 use native.Mathlib.Nat.{eq-or-lt-of-le}
 use native.Mathlib.Numerals.{add-one}
 use native.Mathlib.Omega.{arith}
@@ -16,10 +15,58 @@ use Rattle.model.specs.Word.{Fits}
 use Rattle.model.specs.Stamps.{gapOf, gapsFrom}
 use Rattle.table.specs.declared.Row.{Row}
 use Rattle.table.specs.Rows.{rowOf, said, named}
+use Rattle.table.specs.Tests.{Passes, Fails}
 use Rattle.table.proofs.NamedLaws.{length-named, at-named}
-use Rattle.replay.specs.Play.{FirstOutside}
-use Rattle.replay.specs.Tried.{AllFit, Tried}
-use Rattle.replay.proofs.WordLaws.{gaps-at}
+use Rattle.table.proofs.TestLaws.{Numbered}
+use Rattle.replay.specs.Play.{gapTests}
+use Rattle.replay.specs.Tried.{Tried}
+use Rattle.replay.proofs.WordLaws.{AllFit, gaps-at}
+
+-- the gaps of n steps, of which the first is at place i
+module _ (gaps : List ℕ) where
+  abbrev FitFrom : ℕ → List Transition → ℕ → Type 0
+  FitFrom i tr n = (j : ℕ) → j < n → Fits 256 (at tr j) (getD gaps (i + j) 0)
+
+  fits-first : (i : ℕ) (t : Transition) (tr : List Transition) (n : ℕ) → FitFrom i (t ∷ tr) (suc n) → Fits 256 t (getD gaps i 0)
+  fits-first i t tr n f = let e : i + 0 ≡ i = omega arith in rw e at (f 0 (omega arith))
+
+  fits-rest : (i : ℕ) (t : Transition) (tr : List Transition) (n : ℕ) → FitFrom i (t ∷ tr) (suc n) → FitFrom (suc i) tr n
+  fits-rest i t tr n f j h = let e : i + suc j ≡ suc i + j = omega arith in rw e at (f (suc j) (omega arith))
+
+  fits-pass : (i : ℕ) (tr : List Transition) → FitFrom i tr (length tr) → Passes (gapTests i tr gaps)
+  fits-pass i [] f = tt
+  fits-pass i (t ∷ tr) f = (fits-first i t tr (length tr) f, fits-pass (suc i) tr (fits-rest i t tr (length tr) f))
+
+  pass-fits : (i : ℕ) (tr : List Transition) → Passes (gapTests i tr gaps) → FitFrom i tr (length tr)
+  pass-fits i [] p j h = absurd (omega arith)
+  pass-fits i (t ∷ tr) p zero h = let e : i + 0 ≡ i = omega arith in rw e (p .0)
+  pass-fits i (t ∷ tr) p (suc j) h = let e : i + suc j ≡ suc i + j = omega arith in rw e (pass-fits (suc i) tr (p .1) j (omega arith))
+
+  -- the first that is outside, at place k
+  fails-from : (i : ℕ) (tr : List Transition) (k : ℕ) → k < length tr → FitFrom i tr k → (Fits 256 (at tr k) (getD gaps (i + k) 0) → ⊥)
+      → Fails (gapTests i tr gaps) 9 (suc (i + k))
+  fails-from i [] k h f n = absurd (omega arith)
+  fails-from i (t ∷ tr) zero h f n = let e : i + 0 ≡ i = omega arith in inl ((λ x. n (rw e x)), refl, rw e)
+  fails-from i (t ∷ tr) (suc k) h f n =
+      let e : i + suc k ≡ suc i + k = omega arith in
+      inr (fits-first i t tr k f, rw e (fails-from (suc i) tr k (omega arith) (fits-rest i t tr k f) (rw e at n)))
+
+  pub gaps-numbered : (i : ℕ) (tr : List Transition) → Numbered (gapTests i tr gaps)
+  gaps-numbered i [] = tt
+  gaps-numbered i (t ∷ tr) = (omega arith, omega arith, gaps-numbered (suc i) tr)
+
+  -- all of them hold exactly if every gap is inside its step's guard
+  pub gaps-law : (tr : List Transition) → Passes (gapTests 0 tr gaps) ↔ AllFit tr gaps
+  gaps-law tr = (
+    λ p j h. let e : 0 + j ≡ j = omega arith in rw e at (pass-fits 0 tr p j h),
+    λ f. fits-pass 0 tr (λ j h. let e : 0 + j ≡ j = omega arith in rw e (f j h)),
+  )
+
+  pub gaps-fail : (tr : List Transition) (k : ℕ) → k < length tr → ((j : ℕ) → j < k → Fits 256 (at tr j) (getD gaps j 0))
+      → (Fits 256 (at tr k) (getD gaps k 0) → ⊥) → Fails (gapTests 0 tr gaps) 9 (suc k)
+  gaps-fail tr k h f n =
+      let e : 0 + k ≡ k = omega arith in
+      rw e at (fails-from 0 tr k h (λ j l. let d : 0 + j ≡ j = omega arith in rw d (f j l)) (rw e n))
 
 pub record Passed (tr : List Transition) (start : ℕ) (stamps : List ℕ) (before i : ℕ) : Type 0 where
   pub last : before ≡ getD (start ∷ stamps) i 0
@@ -30,7 +77,10 @@ module _ (c trace : List ℕ) (start : ℕ) (stamps : List ℕ) where
   none-passed = record { last = refl; done = λ j h. absurd (omega arith) }
 
   pub all-passed : {before i : ℕ} → Passed (named c trace) start stamps before i → length trace ≤ i → Tried (named c trace) (gapsFrom start stamps) 0
-  all-passed k h = record { inside = λ e j l. k .done j (omega (arith, length-named c trace)); outside = λ e. absurd (omega arith) }
+  all-passed k h = record {
+    inside = λ e. gaps-law (gapsFrom start stamps) (named c trace) .1 (λ j l. k .done j (omega (arith, length-named c trace)));
+    outside = λ e. absurd (omega arith);
+  }
 
   -- with the row, the gap and the answer of the guard test that the code has at i
   module _ (e : length stamps ≡ length trace) (before i : ℕ) (k : Passed (named c trace) start stamps before i) (h : i < length trace) (row : Row) (gap : ℕ)
@@ -50,23 +100,5 @@ module _ (c trace : List ℕ) (start : ℕ) (stamps : List ℕ) where
     pub stopped : b ≡ false → Tried (named c trace) (gapsFrom start stamps) (i + 1)
     stopped f = record {
       inside = λ z. absurd (omega arith);
-      outside = λ z. record {
-        i = i;
-        step = add-one i;
-        inside = omega (arith, length-named c trace);
-        before = k .done;
-        outside = untold b here f;
-      };
+      outside = λ z. rw (add-one i) (gaps-fail (gapsFrom start stamps) (named c trace) i (omega (arith, length-named c trace)) (k .done) (untold b here f));
     }
-
-module _ {tr : List Transition} {gaps : List ℕ} where
-  pub outside-fits : {s : ℕ} → FirstOutside tr gaps s → AllFit tr gaps → ⊥
-  outside-fits o f = o .outside (f (o .i) (o .inside))
-
-  not-before : {r s : ℕ} (a : FirstOutside tr gaps r) (b : FirstOutside tr gaps s) → a .i < b .i → ⊥
-  not-before a b h = a .outside (b .before (a .i) h)
-
-  pub outside-only : {r s : ℕ} → FirstOutside tr gaps r → FirstOutside tr gaps s → r ≡ s
-  outside-only a b =
-      dite (decLt (a .i) (b .i)) (λ h. absurd (not-before a b h))
-      (λ n. dite (decLt (b .i) (a .i)) (λ h. absurd (not-before b a h)) (λ m. omega arith))

@@ -1,106 +1,130 @@
 -- Two outcomes that replay's contract allows are equal, and how late a response can be due.
-use mathlib.Core.Path.{_≡_, refl, sym, ap, _∙_}
-use mathlib.Core.Logic.{inl, inr}
+use mathlib.Core.Path.{_≡_, refl, sym, ap, subst, _∙_}
 use mathlib.Core.List.{List, _++_, map}
 use Prim.Native.Nat.{ℕ, _≤_, _<_}
 use native.Mathlib.Omega.{arith}
 use lib.ListN.{length, getD, drop, length-map, List·getD-append}
-use Rattle.model.specs.Table.{Transition}
-use Rattle.model.specs.Word.{Word, Activates}
+use Rattle.model.specs.Answers.{Fields}
+use Rattle.model.specs.Table.{Transition, Machine}
+use Rattle.model.specs.Trace.{steps}
+use Rattle.model.specs.Word.{Word}
 use Rattle.model.specs.Order.{Response, response}
-use Rattle.model.specs.Stamps.{gapsFrom, wordFrom}
+use Rattle.model.specs.Stamps.{wordFrom}
 use Rattle.model.proofs.Lists.{in-at, getD-map}
 use Rattle.model.proofs.Conversion.{conversion-only}
 use Rattle.model.proofs.Limits.{due-512}
+use Rattle.model.proofs.Paths.{length-steps}
 use Rattle.table.specs.declared.Table.{Table}
 use Rattle.table.specs.declared.Refusal.{Refusal}
-use Rattle.table.specs.declared.Refusal.the-variants.{Outside}
-use Rattle.table.specs.Tests.{Test, Passes}
-use Rattle.table.proofs.TestLaws.{passes-fails, fails-only}
-use Rattle.trace.specs.Named.{stepsIn}
-use Rattle.trace.proofs.TraceLaws.{length-steps-in}
+use Rattle.table.specs.Refusal.{refusalNumber, refusalPlace}
+use Rattle.table.specs.Rows.{machineOf}
+use Rattle.table.specs.Tests.{Test, Passes, Fails}
+use Rattle.table.proofs.RefusalLaws.{refusal-some, refused-only}
+use Rattle.table.proofs.TestLaws.{Numbered, answered-done, answered-refused, answered-only}
 use Rattle.replay.specs.declared.Replayed.{Replayed}
 use Rattle.replay.specs.declared.Replayed.the-variants.{Played, Refused}
-use Rattle.replay.specs.Play.{replayTests, Cause, RefusesReplay, Plays, ReplayOutcome}
-use Rattle.replay.proofs.WordLaws.{activates-fits, parts-of}
-use Rattle.replay.proofs.GapLaws.{outside-only, outside-fits}
+use Rattle.replay.specs.Play.{replayedFields, replayTests, Plays, PlayOutcome, ReplayOutcome}
+use Rattle.replay.proofs.WordLaws.{parts-of}
 use Rattle.replay.proofs.LaidLaws.{conversion-length}
-use Rattle.replay.proofs.ReplayLaws.{passed-handed, passed-stamped, passed-ranged}
+use Rattle.replay.proofs.ReplayLaws.{replay-numbered, all-first, passed-handed, passed-ranged}
 
--- a test failed, or all passed and a gap is outside: at most one refusal has such a cause, and none where the word activates
-module _ (tests : List Test) (tr : List Transition) (start : ℕ) (stamps : List ℕ) where
-  abbrev pub Why : Refusal → Type 0
-  Why = Cause tests tr (gapsFrom start stamps)
+-- equal fields: equal answers
+pub replayed-only : (a b : Replayed) → replayedFields a ≡ replayedFields b → a ≡ b
+replayed-only Played Played e = refl
+replayed-only Played (Refused s) e = absurd (omega (arith, refusal-some s, ap (λ f. f .status) e))
+replayed-only (Refused r) Played e = absurd (omega (arith, refusal-some r, ap (λ f. f .status) e))
+replayed-only (Refused r) (Refused s) e = ap Refused (refused-only r s e)
 
-  pub cause-only : (r s : Refusal) → Why r → Why s → r ≡ s
-  cause-only r s (inl f) (inl g) = fails-only tests r s f g
-  cause-only r s (inl f) (inr g) = absurd (passes-fails tests r (g .0) f)
-  cause-only r s (inr f) (inl g) = absurd (passes-fails tests s (f .0) g)
-  cause-only r s (inr f) (inr g) = f .1 .2 ∙ ap Outside (outside-only (f .1 .1) (g .1 .1)) ∙ sym (g .1 .2)
+-- on values and on bytes: what the answer tells, and that it tells one thing
+module _ {tests : List Test} {tr : List Transition} {w : Word} {order due : List ℕ → Type 0} {Kept : Type 0} where
+  pub played : Numbered tests → PlayOutcome tests tr w order due Kept (replayedFields Played) → Passes tests × Plays tr w order due
+  played n x = let r = answered-done n (λ h k. omega arith) x in (r .0, r .1 .1)
 
-  pub no-cause : (r : Refusal) → Passes tests → length stamps ≡ length tr → Activates tr (wordFrom tr start stamps) → Why r → ⊥
-  no-cause r p e a (inl f) = passes-fails tests r p f
-  no-cause r p e a (inr g) = outside-fits (g .1 .1) (activates-fits tr start stamps e a)
+  pub unplayed : (r : Refusal) → PlayOutcome tests tr w order due Kept (replayedFields (Refused r)) → Fails tests (refusalNumber r) (refusalPlace r) × Kept
+  unplayed r x = answered-refused (λ d. omega (arith, refusal-some r, ap (λ f. f .status) (d .0))) x
 
-module _ (t : Table) (trace : List ℕ) (start : ℕ) (stamps o₀ d₀ : List ℕ) where
-  abbrev tests : List Test
-  tests = replayTests t trace stamps o₀ d₀
+  -- one number and its values, and the same memory where it is kept, and where the same numbers stand in it
+  pub play-only : {order' due' : List ℕ → Type 0} {Kept' R : Type 0} {f g : Fields} → (Kept → Kept' → R)
+      → ((l k : List ℕ) → order l → due k → order' l → due' k → R)
+      → PlayOutcome tests tr w order due Kept f → PlayOutcome tests tr w order' due' Kept' g → (f ≡ g) × R
+  play-only {order' = order'} {due' = due'} kept left x y =
+      answered-only (λ e k l. (e, kept k l))
+      (λ d e.
+      let p : Plays tr w order due = d .1 in
+      let q : Plays tr w order' due' = e .1 in
+      let s : q .responses ≡ p .responses = conversion-only tr w (q .converts) (p .converts) in (
+        d .0 ∙ sym (e .0),
+        left (map (λ r. r .step) (p .responses)) (map (λ r. r .time) (p .responses)) (p .orders) (p .dues) (rw s at (q .orders)) (rw s at (q .dues)),
+      ))
+      x y
 
-  not-both : {r : Refusal} {o d o' d' : List ℕ} → RefusesReplay t trace start stamps o₀ d₀ r o d → Plays t trace start stamps o₀ d₀ o' d' → ⊥
-  not-both {r} a p =
-      let e : length stamps ≡ length (stepsIn t trace) = passed-stamped t trace stamps o₀ d₀ (p .tested) ∙ sym (length-steps-in t trace) in
-      no-cause tests (stepsIn t trace) start stamps r (p .tested) e (p .activates) (a .why)
-
+module _ (m : Machine) (trace : List ℕ) (start : ℕ) (stamps o₀ d₀ : List ℕ) where
   -- two outcomes that the contract allows for one input are equal, answer and memory
-  pub outcome-only : (r s : Replayed) (o d o' d' : List ℕ) → ReplayOutcome t trace start stamps o₀ d₀ r o d
-      → ReplayOutcome t trace start stamps o₀ d₀ s o' d' → (r ≡ s) × (o ≡ o') × (d ≡ d')
-  outcome-only Played Played o d o' d' a b =
-      let e : a .responses ≡ b .responses = conversion-only (stepsIn t trace) (wordFrom (stepsIn t trace) start stamps) (a .converts) (b .converts) in
-      (refl, a .orders ∙ rw e (sym (b .orders)), a .dues ∙ rw e (sym (b .dues)))
-  outcome-only Played (Refused s) o d o' d' a b = absurd (not-both b a)
-  outcome-only (Refused r) Played o d o' d' a b = absurd (not-both a b)
-  outcome-only (Refused r) (Refused s) o d o' d' a b =
-      (ap Refused (cause-only tests (stepsIn t trace) start stamps r s (a .why) (b .why)), a .order-kept ∙ sym (b .order-kept), a .due-kept ∙ sym (b .due-kept))
+  pub outcome-only : (r s : Replayed) (o d o' d' : List ℕ) → ReplayOutcome m trace start stamps o₀ d₀ (replayedFields r) o d
+      → ReplayOutcome m trace start stamps o₀ d₀ (replayedFields s) o' d' → (r ≡ s) × (o ≡ o') × (d ≡ d')
+  outcome-only r s o d o' d' a b =
+      let x = play-only {R = (o ≡ o') × (d ≡ d')} (λ p q. (p .0 ∙ sym (q .0), p .1 ∙ sym (q .1)))
+      (λ l k p q p' q'. (p ∙ sym p', q ∙ sym q')) a b in
+      (replayed-only r s (x .0), x .1 .0, x .1 .1)
+
+-- two table values of one machine are replayed alike
+pub same-replay : (t u : Table) (trace : List ℕ) (start : ℕ) (stamps o₀ d₀ : List ℕ) → machineOf t ≡ machineOf u → (r s : Replayed) (o d o' d' : List ℕ)
+    → ReplayOutcome (machineOf t) trace start stamps o₀ d₀ (replayedFields r) o d
+    → ReplayOutcome (machineOf u) trace start stamps o₀ d₀ (replayedFields s) o' d' → (r ≡ s) × (o ≡ o') × (d ≡ d')
+same-replay t u trace start stamps o₀ d₀ e r s o d o' d' a b =
+    outcome-only (machineOf u) trace start stamps o₀ d₀ r s o d o' d'
+    (subst (λ m. ReplayOutcome m trace start stamps o₀ d₀ (replayedFields r) o d) e a) b
 
 -- what a replayed word leaves in the two buffers
-module _ (t : Table) (trace : List ℕ) (start : ℕ) (stamps o₀ d₀ o d : List ℕ) (p : Plays t trace start stamps o₀ d₀ o d) where
+module _ (m : Machine) (trace : List ℕ) (start : ℕ) (stamps o₀ d₀ o d : List ℕ)
+    (outcome : ReplayOutcome m trace start stamps o₀ d₀ (replayedFields Played) o d) where
   abbrev tr : List Transition
-  tr = stepsIn t trace
+  tr = steps (m .transitions) trace
 
   abbrev word : Word
   word = wordFrom tr start stamps
 
-  pub plays-length : length (p .responses) ≡ length trace
-  plays-length = conversion-length (p .converts) ∙ length-steps-in t trace
+  both : Passes (replayTests m trace start stamps o₀ d₀)
+      × Plays tr word (λ l. o ≡ l ++ drop (length trace) o₀) (λ l. d ≡ l ++ drop (length trace) d₀)
+  both = played (replay-numbered m trace start stamps o₀ d₀) outcome
+
+  pub plays-tested : Passes (replayTests m trace start stamps o₀ d₀)
+  plays-tested = both .0
+
+  pub plays : Plays tr word (λ l. o ≡ l ++ drop (length trace) o₀) (λ l. d ≡ l ++ drop (length trace) d₀)
+  plays = both .1
+
+  pub plays-length : length (plays .responses) ≡ length trace
+  plays-length = conversion-length (plays .converts) ∙ length-steps (m .transitions) trace
 
   abbrev order : List ℕ
-  order = p .converts .order
+  order = plays .converts .order
 
   length-order : length order ≡ length trace
-  length-order = sym (ap length (p .converts .lists) ∙ length-map order (response tr word)) ∙ plays-length
+  length-order = sym (ap length (plays .converts .lists) ∙ length-map order (response tr word)) ∙ plays-length
 
   known : (i : ℕ) → i < length trace → getD order i 0 < length tr
-  known i h = p .converts .ordered .exact (getD order i 0) .0 (in-at 0 order i (omega (arith, length-order)))
+  known i h = plays .converts .ordered .exact (getD order i 0) .0 (in-at 0 order i (omega (arith, length-order)))
 
   -- place i of a buffer that was filled with g of the responses
-  filled : (g : Response → ℕ) (b b₀ : List ℕ) → b ≡ map g (p .responses) ++ drop (length trace) b₀ → (i : ℕ) → i < length trace
+  filled : (g : Response → ℕ) (b b₀ : List ℕ) → b ≡ map g (plays .responses) ++ drop (length trace) b₀ → (i : ℕ) → i < length trace
       → getD b i 0 ≡ g (response tr word (getD order i 0))
   filled g b b₀ e i h =
       let z : Response = response tr word 0 in
-      let m : length (map g (p .responses)) ≡ length trace = length-map (p .responses) g ∙ plays-length in
-      let r : getD (p .responses) i z ≡ response tr word (getD order i 0) =
-      ap (λ (l : List Response). getD l i z) (p .converts .lists) ∙ getD-map (response tr word) 0 z order i (omega (arith, length-order)) in
+      let m : length (map g (plays .responses)) ≡ length trace = length-map (plays .responses) g ∙ plays-length in
+      let r : getD (plays .responses) i z ≡ response tr word (getD order i 0) =
+      ap (λ (l : List Response). getD l i z) (plays .converts .lists) ∙ getD-map (response tr word) 0 z order i (omega (arith, length-order)) in
       rw e
-      (List·getD-append (map g (p .responses)) (drop (length trace) b₀) 0 i (omega arith)
-      ∙ getD-map g z 0 (p .responses) i (omega (arith, plays-length)) ∙ ap g r)
+      (List·getD-append (map g (plays .responses)) (drop (length trace) b₀) 0 i (omega arith)
+      ∙ getD-map g z 0 (plays .responses) i (omega (arith, plays-length)) ∙ ap g r)
 
   -- "Replay gives steps .. counted from 1"
   pub steps-within : (i : ℕ) → i < length trace → (1 ≤ getD o i 0) × (getD o i 0 ≤ length trace)
-  steps-within i h = omega (arith, filled (λ x. x .step) o o₀ (p .orders) i h, known i h, length-steps-in t trace)
+  steps-within i h = omega (arith, filled (λ x. x .step) o o₀ (plays .orders) i h, known i h, length-steps (m .transitions) trace)
 
   -- "its due time in 1/256 tick since the start (at most 536,801,280)"
   pub dues-within : (i : ℕ) → i < length trace → getD d i 0 ≤ 536801280
   dues-within i h =
-      rw (filled (λ x. x .time) d d₀ (p .dues) i h)
-      (due-512 (passed-ranged t trace stamps o₀ d₀ (p .tested)) word (p .activates) (getD order i 0) (parts-of tr start stamps)
-      (omega (arith, passed-handed t trace stamps o₀ d₀ (p .tested) .most, length-steps-in t trace)) (known i h))
+      rw (filled (λ x. x .time) d d₀ (plays .dues) i h)
+      (due-512 (passed-ranged m trace start stamps o₀ d₀ (all-first m trace start stamps o₀ d₀ plays-tested)) word (plays .activates) (getD order i 0) (parts-of tr start stamps)
+      (omega (arith, passed-handed m trace start stamps o₀ d₀ (all-first m trace start stamps o₀ d₀ plays-tested) .most, length-steps (m .transitions) trace)) (known i h))

@@ -3,93 +3,155 @@ use mathlib.Core.Path.{_≡_, refl, sym, _∙_}
 use mathlib.Core.Logic.{inl, inr}
 use mathlib.Core.List.{List}
 use Prim.Native.Nat.{ℕ, _≤_}
+use native.Mathlib.Omega.{arith}
 use lib.ListN.{length}
+use Rattle.model.specs.Answers.{Fields}
 use Rattle.model.specs.Lists.{All}
-use Rattle.model.specs.Table.{InRange}
-use Rattle.model.specs.Trace.{Handed}
+use Rattle.model.specs.Table.{Transition, Machine, InRange, Valid}
+use Rattle.model.specs.Trace.{Handed, steps}
 use Rattle.model.specs.Word.{Activates}
 use Rattle.model.specs.Stamps.{gapsFrom, wordFrom}
+use Rattle.model.proofs.Paths.{length-steps}
 use Rattle.table.specs.declared.Table.{Table}
 use Rattle.table.specs.declared.Refusal.{Refusal}
 use Rattle.table.specs.declared.Refusal.the-variants.{NoTrace, Uneven, NoRoom, Outside}
+use Rattle.table.specs.declared.Checked.{Checked}
 use Rattle.table.specs.declared.Checked.the-variants as checked
-use Rattle.table.specs.Rows.{rows, named}
-use Rattle.table.specs.Check.{checkOf}
-use Rattle.table.specs.Tests.{Test, Passes, Fails}
-use Rattle.table.proofs.TestLaws.{sound-valid, sound-passes, sound-fails, refused-fails, passes-sound}
-use Rattle.table.proofs.NamedLaws.{length-named}
-use Rattle.trace.specs.Named.{stepsIn, TraceIn}
-use Rattle.trace.proofs.TraceLaws.{length-steps-in, named-in, handed-ranged}
-use Rattle.replay.specs.Play.{ownTests, replayTests, RefusesReplay, Plays}
+use Rattle.table.specs.Refusal.{refusalNumber, refusalPlace, refusedFields, checkedFields}
+use Rattle.table.specs.Rows.{named, machineOf}
+use Rattle.table.specs.Tests.{Test, Passes, refuses, answers, Tested, afterTable, CheckOutcome}
+use Rattle.table.proofs.TestLaws.{passes-append, fails-front, fails-back, Numbered, numbered-append, tested-passes, tested-fails}
+use Rattle.table.proofs.TestLaws.{refused-fails, passes-valid, valid-passes, valid-fails}
+use Rattle.trace.specs.Named.{TraceIn}
+use Rattle.trace.proofs.TraceLaws.{named-in, handed-ranged, trace-handed}
+use Rattle.replay.specs.declared.Replayed.the-variants.{Played, Refused}
+use Rattle.replay.specs.Play.{replayedFields, ownTests, gapTests, replayTests, ReplayOutcome}
 use Rattle.replay.specs.Tried.{Tried}
 use Rattle.replay.specs.Laid.{Laid, LaidOut, Playable}
 use Rattle.replay.proofs.WordLaws.{fits-activates}
+use Rattle.replay.proofs.GapLaws.{gaps-numbered, gaps-law}
 use Rattle.replay.proofs.LaidLaws.{laid, laid-converts, laid-orders, laid-dues}
 
--- each way out of the tests
+-- each way out of the tests that look at no gap
 module _ (t : Table) (trace stamps o₀ d₀ : List ℕ) where
+  abbrev m : Machine
+  m = machineOf t
+
   abbrev others : List Test
-  others = ownTests t trace stamps o₀ d₀
+  others = ownTests m trace stamps o₀ d₀
 
-  pub fails-table : {r : Refusal} → checkOf t ≡ checked.Refused r → Fails (replayTests t trace stamps o₀ d₀) r
-  fails-table {r} e = refused-fails t others r e
+  abbrev Told : Fields → Type 0
+  Told = Tested (afterTable m others)
 
-  module _ (sound : checkOf t ≡ checked.Sound) where
-    pub fails-trace : (TraceIn (t .cells) (t .count) trace → ⊥) → Fails (replayTests t trace stamps o₀ d₀) NoTrace
-    fails-trace n = sound-fails t others NoTrace sound (inl ((λ h. n (sound-valid t sound .0, h)), refl))
+  pub fails-table : {a : Checked} {r : Refusal} → a ≡ checked.Refused r → CheckOutcome m (checkedFields a) → Told (refusedFields r)
+  fails-table e x = refuses refl (refused-fails m others e x) tt
+
+  module _ (valid : Valid m) where
+    pub fails-trace : (TraceIn (t .cells) (t .count) trace → ⊥) → Told (refusedFields NoTrace)
+    fails-trace n = refuses refl (valid-fails m valid others 6 0 .1 (inl ((λ h. n (trace-handed t trace valid .1 h)), refl, refl))) tt
 
     module _ (traced : TraceIn (t .cells) (t .count) trace) where
-      pub fails-stamps : (length stamps ≡ length trace → ⊥) → Fails (replayTests t trace stamps o₀ d₀) Uneven
-      fails-stamps n = sound-fails t others Uneven sound (inr (traced .1, inl (n, refl)))
+      handed : Handed (m .transitions) trace
+      handed = trace-handed t trace valid .0 traced
 
-      pub fails-room : length stamps ≡ length trace → ((length trace ≤ length o₀) × (length trace ≤ length d₀) → ⊥)
-          → Fails (replayTests t trace stamps o₀ d₀) NoRoom
-      fails-room e n = sound-fails t others NoRoom sound (inr (traced .1, inr (e, inl (n, refl))))
+      pub fails-stamps : (length stamps ≡ length trace → ⊥) → Told (refusedFields Uneven)
+      fails-stamps n = refuses refl (valid-fails m valid others 7 0 .1 (inr (handed, inl (n, refl, refl)))) tt
 
-      pub passes-all : length stamps ≡ length trace → length trace ≤ length o₀ → length trace ≤ length d₀ → Passes (replayTests t trace stamps o₀ d₀)
-      passes-all e a b = sound-passes t others sound (traced .1, (e, ((a, b), tt)))
+      pub fails-room : length stamps ≡ length trace → ((length trace ≤ length o₀) × (length trace ≤ length d₀) → ⊥) → Told (refusedFields NoRoom)
+      fails-room e n = refuses refl (valid-fails m valid others 8 0 .1 (inr (handed, inr (e, inl (n, refl, refl))))) tt
 
--- what the tests have shown
-module _ (t : Table) (trace stamps o₀ d₀ : List ℕ) (p : Passes (replayTests t trace stamps o₀ d₀)) where
-  pub passed-handed : Handed (rows (t .cells) (t .count)) trace
-  passed-handed = p .1 .1 .1 .0
+      pub passes-all : length stamps ≡ length trace → length trace ≤ length o₀ → length trace ≤ length d₀ → Told (checkedFields checked.Sound)
+      passes-all e a b = answers (valid-passes m valid others (handed, (e, ((a, b), tt)))) refl
 
-  pub passed-stamped : length stamps ≡ length trace
-  passed-stamped = p .1 .1 .1 .1 .0
+-- the tests before the gaps', and all of them
+module _ (m : Machine) (trace : List ℕ) (start : ℕ) (stamps o₀ d₀ : List ℕ) where
+  abbrev first : List Test
+  first = afterTable m (ownTests m trace stamps o₀ d₀)
 
-  pub passed-ranged : All (InRange (t .states)) (stepsIn t trace)
-  passed-ranged = handed-ranged t trace passed-handed (passes-sound t (ownTests t trace stamps o₀ d₀) p)
+  abbrev last : List Test
+  last = gapTests 0 (steps (m .transitions) trace) (gapsFrom start stamps)
 
-  same : named (t .cells) trace ≡ stepsIn t trace
-  same = named-in t trace passed-handed (p .0)
+  pub replay-numbered : Numbered (replayTests m trace start stamps o₀ d₀)
+  replay-numbered = numbered-append first last (omega arith) (gaps-numbered (gapsFrom start stamps) 0 (steps (m .transitions) trace))
 
-  module _ (start : ℕ) {s : ℕ} (tried : Tried (named (t .cells) trace) (gapsFrom start stamps) s) where
-    pub refuses-gap : 1 ≤ s → RefusesReplay t trace start stamps o₀ d₀ (Outside s) o₀ d₀
-    refuses-gap h = record { why = inr (p, (s, (rw same at tried) .outside h, refl)); order-kept = refl; due-kept = refl }
+  -- a test before the gaps' failed
+  pub refuses-first : {a : Checked} {r : Refusal} → a ≡ checked.Refused r → Tested first (checkedFields a)
+      → ReplayOutcome m trace start stamps o₀ d₀ (replayedFields (Refused r)) o₀ d₀
+  refuses-first {r = r} e x = refuses refl (fails-front first last (refusalNumber r) (refusalPlace r) (tested-fails first e x)) (refl, refl)
 
-    activates : s ≡ 0 → Activates (named (t .cells) trace) (wordFrom (named (t .cells) trace) start stamps)
-    activates z =
-        fits-activates (named (t .cells) trace) start stamps (passed-stamped ∙ sym (length-named (t .cells) trace)) (tried .inside z)
+  pub passes-first : {a : Checked} → a ≡ checked.Sound → Tested first (checkedFields a) → Passes first
+  passes-first e x = tested-passes first (omega arith) e x
+
+  -- what they have shown
+  module _ (p : Passes first) where
+    pub passed-valid : Valid m
+    passed-valid = passes-valid m (ownTests m trace stamps o₀ d₀) p
+
+    pub passed-handed : Handed (m .transitions) trace
+    passed-handed = p .1 .1 .1 .0
+
+    pub passed-stamped : length stamps ≡ length trace
+    passed-stamped = p .1 .1 .1 .1 .0
+
+    pub passed-ranged : All (InRange (m .states)) (steps (m .transitions) trace)
+    passed-ranged = handed-ranged m trace passed-valid passed-handed
+
+  -- and all together
+  module _ (p : Passes (replayTests m trace start stamps o₀ d₀)) where
+    pub all-first : Passes first
+    all-first = passes-append first last .0 p .0
+
+    pub all-activates : Activates (steps (m .transitions) trace) (wordFrom (steps (m .transitions) trace) start stamps)
+    all-activates =
+        fits-activates (steps (m .transitions) trace) start stamps
+        (passed-stamped all-first ∙ sym (length-steps (m .transitions) trace))
+        (gaps-law (gapsFrom start stamps) (steps (m .transitions) trace) .0 (passes-append first last .0 p .1))
+
+-- the gaps, tried on what the code looks up
+module _ (t : Table) (trace : List ℕ) (start : ℕ) (stamps o₀ d₀ : List ℕ) (p : Passes (first (machineOf t) trace start stamps o₀ d₀)) where
+  abbrev own : Machine
+  own = machineOf t
+
+  abbrev tr : List Transition
+  tr = steps (own .transitions) trace
+
+  same : named (t .cells) trace ≡ tr
+  same = named-in t trace (passed-valid own trace start stamps o₀ d₀ p) (passed-handed own trace start stamps o₀ d₀ p)
+
+  module _ {s : ℕ} (tried : Tried (named (t .cells) trace) (gapsFrom start stamps) s) where
+    here : Tried tr (gapsFrom start stamps) s
+    here = rw same at tried
+
+    pub refuses-gap : 1 ≤ s → ReplayOutcome own trace start stamps o₀ d₀ (replayedFields (Refused (Outside s))) o₀ d₀
+    refuses-gap h =
+        refuses refl
+        (fails-back (first own trace start stamps o₀ d₀) (last own trace start stamps o₀ d₀) 9 s p .1 (here .outside h)) (refl, refl)
+
+    passes : s ≡ 0 → Passes (replayTests own trace start stamps o₀ d₀)
+    passes z = passes-append (first own trace start stamps o₀ d₀) (last own trace start stamps o₀ d₀) .1 (p, here .inside z)
 
     pub playable : s ≡ 0 → Playable (t .cells) trace start stamps o₀ d₀
     playable z = record {
       states = t .states;
-      ranged = rw same passed-ranged;
-      most = passed-handed .most;
-      stamped = passed-stamped;
+      ranged = rw same (passed-ranged own trace start stamps o₀ d₀ p);
+      most = passed-handed own trace start stamps o₀ d₀ p .most;
+      stamped = passed-stamped own trace start stamps o₀ d₀ p;
       order-room = p .1 .1 .1 .1 .1 .0 .0;
       due-room = p .1 .1 .1 .1 .1 .0 .1;
-      activates = activates z;
+      activates = rw same (all-activates own trace start stamps o₀ d₀ (passes z));
     }
 
-    pub plays : {o d : List ℕ} → s ≡ 0 → LaidOut (t .cells) trace start stamps o₀ d₀ o d → Plays t trace start stamps o₀ d₀ o d
+    pub plays : {o d : List ℕ} → s ≡ 0 → LaidOut (t .cells) trace start stamps o₀ d₀ o d
+        → ReplayOutcome own trace start stamps o₀ d₀ (replayedFields Played) o d
     plays {o} {d} z l =
-        let k : Laid (stepsIn t trace) (wordFrom (stepsIn t trace) start stamps) (length trace) o₀ d₀ o d = rw same at l in
-        record {
-          tested = p;
-          activates = rw same at (activates z);
-          responses = laid k;
-          converts = laid-converts k (length-steps-in t trace);
-          orders = laid-orders k;
-          dues = laid-dues k;
-        }
+        let k : Laid tr (wordFrom tr start stamps) (length trace) o₀ d₀ o d = rw same at l in
+        answers (passes z) (
+          refl,
+          record {
+            activates = all-activates own trace start stamps o₀ d₀ (passes z);
+            responses = laid k;
+            converts = laid-converts k (length-steps (own .transitions) trace);
+            orders = laid-orders k;
+            dues = laid-dues k;
+          },
+        )

@@ -7,13 +7,15 @@ use native.Mathlib.Nat.{suc-inj}
 use lib.ListN.{length, getD, take}
 use Rattle.model.specs.Lists.{total}
 use Rattle.model.specs.Table.{Transition, at, none}
-use Rattle.model.specs.Word.{Symbol, Activates}
+use Rattle.model.specs.Word.{Symbol, Fits, Activates}
 use Rattle.model.specs.Order.{arrival}
 use Rattle.model.specs.Shown.{symbol}
 use Rattle.model.specs.Stamps.{gapOf, gapsFrom, spelled, wordFrom}
-use Rattle.model.proofs.Lists.{both-by, both-at}
-use Rattle.table.specs.declared.Table.{Table}
-use Rattle.replay.specs.Tried.{AllFit}
+use Rattle.model.proofs.Lists.{both-by}
+
+-- every gap inside its step's guard
+abbrev pub AllFit : List Transition → List ℕ → Type 0
+AllFit tr gaps = (j : ℕ) → j < length tr → Fits 256 (at tr j) (getD gaps j 0)
 
 -- a stamp counts 1/256 tick
 pub parts-of : (tr : List Transition) (start : ℕ) (stamps : List ℕ) → wordFrom tr start stamps .q ≡ 256
@@ -60,13 +62,6 @@ module _ (tr : List Transition) (start : ℕ) (stamps : List ℕ) (e : length st
   fits-activates f =
       both-by none (symbol none 0) tr (spelled tr (gapsFrom start stamps)) (length-spelled tr (gapsFrom start stamps) gaps-tr)
       (λ i h. rw (spelled-at (symbol none 0) tr (gapsFrom start stamps) i gaps-tr h) (record { letter = refl; fits = f i h }))
-
-  pub activates-fits : Activates tr (wordFrom tr start stamps) → AllFit tr (gapsFrom start stamps)
-  unfolding wordFrom
-  activates-fits a i h =
-      let s : getD (spelled tr (gapsFrom start stamps)) i (symbol none 0) ≡ symbol (at tr i) (getD (gapsFrom start stamps) i 0) =
-      spelled-at (symbol none 0) tr (gapsFrom start stamps) i gaps-tr h in
-      (rw s at (both-at none (symbol none 0) a i h)) .fits
 
   -- step i arrives a gap after the step before it
   pub arrival-next : (i : ℕ) → i < length tr → arrival (wordFrom tr start stamps) i ≡ passed tr start stamps i + getD (gapsFrom start stamps) i 0

@@ -1,4 +1,3 @@
 pub mod Play
-pub mod Tested
 pub mod Tried
 pub mod Laid

@@ -1,60 +1,56 @@
 -- What replay answers, and what it leaves in the lent memory.
 use mathlib.Core.Path.{_≡_}
-use mathlib.Core.Logic.{_⊎_}
 use mathlib.Core.List.{List, [], _∷_, _++_, map}
-use Prim.Native.Nat.{ℕ, suc, _≤_, _<_}
+use Prim.Native.Nat.{ℕ, suc, _≤_}
 use lib.ListN.{length, getD, drop}
-use Rattle.model.specs.Table.{Transition, at}
-use Rattle.model.specs.Trace.{Handed}
-use Rattle.model.specs.Word.{Fits, Activates}
+use Rattle.model.specs.Answers.{Fields, fields}
+use Rattle.model.specs.Table.{Transition, Machine}
+use Rattle.model.specs.Trace.{Handed, steps}
+use Rattle.model.specs.Word.{Word, Fits, Activates}
 use Rattle.model.specs.Order.{Response, Conversion}
 use Rattle.model.specs.Stamps.{gapsFrom, wordFrom}
-use Rattle.trace.specs.Named.{stepsIn}
-use Rattle.table.specs.declared.Table.{Table}
-use Rattle.table.specs.declared.Refusal.{Refusal}
-use Rattle.table.specs.declared.Refusal.the-variants.{NoTrace, Uneven, NoRoom, Outside}
-use Rattle.table.specs.Rows.{rows}
-use Rattle.table.specs.Tests.{Test, unless, Passes, Fails, afterTable}
+use Rattle.table.specs.Refusal.{refusedFields}
+use Rattle.table.specs.Tests.{Test, unless, unlessAt, Answered, afterTable}
 use Rattle.replay.specs.declared.Replayed.{Replayed}
 use Rattle.replay.specs.declared.Replayed.the-variants.{Played, Refused}
 
+abbrev pub replayedFields : Replayed → Fields
+replayedFields Played = fields 0 0 0 0
+replayedFields (Refused r) = refusedFields r
+
 -- "number of stamps differs from number of steps"; "replay needs one place per step in each of two buffers"
-abbrev pub ownTests : Table → List ℕ → List ℕ → List ℕ → List ℕ → List Test
-ownTests t trace stamps order₀ due₀ =
-    unless NoTrace (Handed (rows (t .cells) (t .count)) trace) ∷
-    unless Uneven (length stamps ≡ length trace) ∷
-    unless NoRoom ((length trace ≤ length order₀) × (length trace ≤ length due₀)) ∷ []
+abbrev pub ownTests : Machine → List ℕ → List ℕ → List ℕ → List ℕ → List Test
+ownTests m trace stamps order₀ due₀ =
+    unless 6 (Handed (m .transitions) trace) ∷
+    unless 7 (length stamps ≡ length trace) ∷
+    unless 8 ((length trace ≤ length order₀) × (length trace ≤ length due₀)) ∷ []
 
-abbrev pub replayTests : Table → List ℕ → List ℕ → List ℕ → List ℕ → List Test
-replayTests t trace stamps order₀ due₀ = afterTable t (ownTests t trace stamps order₀ due₀)
+-- "a gap outside its guard", a test a step from place i on: "9 names the first such step", counted from 1
+abbrev pub gapTests : ℕ → List Transition → List ℕ → List Test
+gapTests i [] gaps = []
+gapTests i (t ∷ tr) gaps = unlessAt 9 (suc i) (Fits 256 t (getD gaps i 0)) ∷ gapTests (suc i) tr gaps
 
--- "9 names the first such step": step s, counted from 1, is the first whose gap is outside its guard
-pub record FirstOutside (tr : List Transition) (gaps : List ℕ) (s : ℕ) : Type 0 where
-  pub i : ℕ
-  pub step : s ≡ suc i
-  pub inside : i < length tr
-  pub before : (j : ℕ) → j < i → Fits 256 (at tr j) (getD gaps j 0)
-  pub outside : Fits 256 (at tr i) (getD gaps i 0) → ⊥
+abbrev pub replayTests : Machine → List ℕ → ℕ → List ℕ → List ℕ → List ℕ → List Test
+replayTests m trace start stamps order₀ due₀ =
+    afterTable m (ownTests m trace stamps order₀ due₀ ++ gapTests 0 (steps (m .transitions) trace) (gapsFrom start stamps))
 
--- why a word is refused: a test failed, or all passed and a gap is outside
-abbrev pub Cause : List Test → List Transition → List ℕ → Refusal → Type 0
-Cause tests tr gaps r = Fails tests r ⊎ (Passes tests × ((s : ℕ) × FirstOutside tr gaps s × (r ≡ Outside s)))
-
--- "A refusal .. writes nothing"
-pub record RefusesReplay (t : Table) (trace : List ℕ) (start : ℕ) (stamps order₀ due₀ : List ℕ) (r : Refusal) (order due : List ℕ) : Type 0 where
-  pub why : Cause (replayTests t trace stamps order₀ due₀) (stepsIn t trace) (gapsFrom start stamps) r
-  pub order-kept : order ≡ order₀
-  pub due-kept : due ≡ due₀
-
--- "Replay gives steps in response order, counted from 1, and beside each its due time": the conversion, then what stood there
-pub record Plays (t : Table) (trace : List ℕ) (start : ℕ) (stamps order₀ due₀ order due : List ℕ) : Type 0 where
-  pub tested : Passes (replayTests t trace stamps order₀ due₀)
-  pub activates : Activates (stepsIn t trace) (wordFrom (stepsIn t trace) start stamps)
+-- "Replay gives steps in response order, counted from 1, and beside each its due time": the word activates the trace, and of its conversion the
+-- steps stand as `order` says, the due times as `due` says
+pub record Plays (tr : List Transition) (w : Word) (order due : List ℕ → Type 0) : Type 0 where
+  pub activates : Activates tr w
   pub responses : List Response
-  pub converts : Conversion (stepsIn t trace) (wordFrom (stepsIn t trace) start stamps) responses
-  pub orders : order ≡ map (λ x. x .step) responses ++ drop (length trace) order₀
-  pub dues : due ≡ map (λ x. x .time) responses ++ drop (length trace) due₀
+  pub converts : Conversion tr w responses
+  pub orders : order (map (λ x. x .step) responses)
+  pub dues : due (map (λ x. x .time) responses)
 
-abbrev pub ReplayOutcome : Table → List ℕ → ℕ → List ℕ → List ℕ → List ℕ → Replayed → List ℕ → List ℕ → Type 0
-ReplayOutcome t trace start stamps order₀ due₀ Played order due = Plays t trace start stamps order₀ due₀ order due
-ReplayOutcome t trace start stamps order₀ due₀ (Refused r) order due = RefusesReplay t trace start stamps order₀ due₀ r order due
+-- what a replay answers after its tests, on values and on bytes
+abbrev pub PlayOutcome : List Test → List Transition → Word → (List ℕ → Type 0) → (List ℕ → Type 0) → Type 0 → Fields → Type 0
+PlayOutcome tests tr w order due Kept f = Answered tests (λ f. (f ≡ fields 0 0 0 0) × Plays tr w order due) Kept f
+
+-- on values: the steps and the due times, each then what stood there; "A refusal .. writes nothing"
+abbrev pub ReplayOutcome : Machine → List ℕ → ℕ → List ℕ → List ℕ → List ℕ → Fields → List ℕ → List ℕ → Type 0
+ReplayOutcome m trace start stamps order₀ due₀ f order due =
+    PlayOutcome (replayTests m trace start stamps order₀ due₀) (steps (m .transitions) trace) (wordFrom (steps (m .transitions) trace) start stamps)
+    (λ l. order ≡ l ++ drop (length trace) order₀)
+    (λ l. due ≡ l ++ drop (length trace) due₀)
+    ((order ≡ order₀) × (due ≡ due₀)) f

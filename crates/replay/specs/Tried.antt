@@ -1,17 +1,12 @@
--- The test of a word's gaps on the transitions that a list names in a table's cells.
+-- The test of a word's gaps by itself.
 use mathlib.Core.Path.{_≡_}
 use mathlib.Core.List.{List}
-use Prim.Native.Nat.{ℕ, _≤_, _<_}
-use lib.ListN.{length, getD}
-use Rattle.model.specs.Table.{Transition, at}
-use Rattle.model.specs.Word.{Fits}
-use Rattle.replay.specs.Play.{FirstOutside}
+use Prim.Native.Nat.{ℕ, _≤_}
+use Rattle.model.specs.Table.{Transition}
+use Rattle.table.specs.Tests.{Passes, Fails}
+use Rattle.replay.specs.Play.{gapTests}
 
--- every gap inside its step's guard
-abbrev pub AllFit : List Transition → List ℕ → Type 0
-AllFit tr gaps = (j : ℕ) → j < length tr → Fits 256 (at tr j) (getD gaps j 0)
-
--- 0 if every gap is inside, else the first step that is outside
+-- 0 if every gap is inside its guard, else the first step that is outside
 pub record Tried (tr : List Transition) (gaps : List ℕ) (r : ℕ) : Type 0 where
-  pub inside : r ≡ 0 → AllFit tr gaps
-  pub outside : 1 ≤ r → FirstOutside tr gaps r
+  pub inside : r ≡ 0 → Passes (gapTests 0 tr gaps)
+  pub outside : 1 ≤ r → Fails (gapTests 0 tr gaps) 9 r

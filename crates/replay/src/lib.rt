@@ -2,8 +2,10 @@
 use table::Checked;
 use table::Refusal;
 use table::Table;
-ghost use Rattle.replay.specs.Play.{replayTests, ReplayOutcome};
-ghost use Rattle.replay.specs.Tested.{Answers};
+ghost use Rattle.table.specs.Refusal.{checkedFields};
+ghost use Rattle.table.specs.Rows.{machineOf};
+ghost use Rattle.table.specs.Tests.{afterTable, Tested};
+ghost use Rattle.replay.specs.Play.{replayedFields, ownTests, ReplayOutcome};
 
 mod gaps;
 mod responses;
@@ -15,7 +17,9 @@ pub enum Replayed {
 
 // The tests that look at no gap, in rising order of their numbers.
 fn tested(t: Table, trace: &[u16], stamps: &[u32], order: &[u16], due: &[u32]) -> Checked
-    ensures { λ r. ⌜ Answers (replayTests t (now (trace .entry)) (now (stamps .entry)) (now (order .entry)) (now (due .entry))) r ⌝ }
+    ensures { λ r. ⌜ Tested
+        (afterTable (machineOf t) (ownTests (machineOf t) (now (trace .entry)) (now (stamps .entry)) (now (order .entry)) (now (due .entry))))
+        (checkedFields r) ⌝ }
 {
     let checked = table::check_parts(t.states, t.initial, t.count, &t.cells);
     if let Checked::Refused(r) = checked {
@@ -45,7 +49,9 @@ pub fn replay(
     order: &mut [u16],
     due: &mut [u32],
 ) -> Replayed
-    ensures { λ r. ⌜ ReplayOutcome t (now (trace .entry)) start (now (stamps .entry)) (now (order .entry)) (now (due .entry)) r (now (order .exit)) (now (due .exit)) ⌝ }
+    ensures { λ r. ⌜ ReplayOutcome
+        (machineOf t) (now (trace .entry)) start (now (stamps .entry)) (now (order .entry)) (now (due .entry))
+        (replayedFields r) (now (order .exit)) (now (due .exit)) ⌝ }
 {
     if let Checked::Refused(r) = tested(t, trace, stamps, order, due) {
         return Replayed::Refused(r);

@@ -1,9 +1,10 @@
 -- A packed answer taken apart gives back its fields.
-use mathlib.Core.Path.{_≡_, sym, ap, _∙_}
+use mathlib.Core.Path.{_≡_, sym, _∙_}
 use Prim.Native.Nat.{ℕ, _+_, _*_, _%_, _/_, _<_}
 use native.Mathlib.Omega.{arith}
 use native.Mathlib.Nat.{div-div-eq-div-mul}
-use Rattle.sandgusset.specs.Packed.{Fields, packed, unpacked, Fits}
+use Rattle.model.specs.Answers.{Fields}
+use Rattle.sandgusset.specs.Packed.{packed, unpacked, Fits}
 
 -- one field below what stands above it
 abbrev over : ℕ → ℕ → ℕ
@@ -27,21 +28,17 @@ module _ (f : Fields) where
   three-above = sym (div-div-eq-div-mul (packed f) 4294967296 65536) ∙ rw two-above (rest (f .second) (f .steps % 65536))
 
   module _ (h : Fits f) where
-    pub packed-status : packed f % 65536 ≡ f .status
+    packed-status : packed f % 65536 ≡ f .status
     packed-status = low (f .status) _ (omega arith)
 
-    pub packed-first : packed f / 65536 % 65536 ≡ f .first
+    packed-first : packed f / 65536 % 65536 ≡ f .first
     packed-first = rw above (low (f .first) _ (omega arith))
 
-    pub packed-second : packed f / 4294967296 % 65536 ≡ f .second
+    packed-second : packed f / 4294967296 % 65536 ≡ f .second
     packed-second = rw two-above (low (f .second) _ (omega arith))
 
-    pub packed-steps : packed f / 281474976710656 % 65536 ≡ f .steps
+    packed-steps : packed f / 281474976710656 % 65536 ≡ f .steps
     packed-steps = rw three-above (omega arith)
 
     pub packed-apart : unpacked (packed f) ≡ f
     packed-apart = rw (packed-status, packed-first, packed-second, packed-steps)
-
--- two answers that are one number have the same fields
-pub packed-one : (f g : Fields) → Fits f → Fits g → packed f ≡ packed g → f ≡ g
-packed-one f g p q e = sym (packed-apart f p) ∙ ap unpacked e ∙ packed-apart g q

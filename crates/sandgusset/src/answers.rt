@@ -5,7 +5,13 @@ use table::Written;
 use table_verdict::OnTable;
 use verdict::OnTrace;
 ghost use mathlib.Core.Path.{_≡_};
-ghost use Rattle.sandgusset.specs.Packed.{fields, packed, refusedFields, tableFields, traceFields, replayFields, rewriteFields};
+ghost use Rattle.model.specs.Answers.{fields};
+ghost use Rattle.table.specs.Refusal.{refusedFields};
+ghost use Rattle.table.specs.Write.{writtenFields};
+ghost use Rattle.replay.specs.Play.{replayedFields};
+ghost use Rattle.verdict.specs.OnTrace.{traceFields};
+ghost use Rattle.table_verdict.specs.OnTable.{tableFields};
+ghost use Rattle.sandgusset.specs.Packed.{packed};
 
 // Four fields of 16 bits, the lowest first.
 fn pack(status: u16, first: usize, second: usize, steps: usize) -> u64
@@ -46,7 +52,7 @@ pub(crate) fn on_trace(a: OnTrace, n: usize) -> u64
 }
 
 pub(crate) fn replayed(a: Replayed) -> u64
-    ensures { λ r. ⌜ r ≡ packed (replayFields a) ⌝ }
+    ensures { λ r. ⌜ r ≡ packed (replayedFields a) ⌝ }
 {
     match a {
         Replayed::Played => pack(0, 0, 0, 0),
@@ -55,7 +61,7 @@ pub(crate) fn replayed(a: Replayed) -> u64
 }
 
 pub(crate) fn written(a: Written) -> u64
-    ensures { λ r. ⌜ r ≡ packed (rewriteFields a) ⌝ }
+    ensures { λ r. ⌜ r ≡ packed (writtenFields a) ⌝ }
 {
     match a {
         Written::Bytes(n) => pack(0, n, 0, 0),

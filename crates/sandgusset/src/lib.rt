@@ -17,7 +17,7 @@ pub extern "C" fn sandgusset_judge(file: &[u8], trace: &mut [u8], stamps: &mut [
 pub extern "C" fn sandgusset_judge_trace(file: &[u8], trace: &[u8], stamps: &mut [u8]) -> u64
     ensures { λ r. ⌜ JudgeTraceAnswer (now (file .entry)) (now (trace .entry)) (now (stamps .entry)) r (now (stamps .exit)) ⌝ }
 {
-    let a = verdict_bytes::judge_trace_bytes(file, trace, stamps);
+    let a = trace_bytes::judge_trace_bytes(file, trace, stamps);
     answers::on_trace(a, trace.len() / 2)
 }
 
@@ -31,7 +31,8 @@ pub extern "C" fn sandgusset_replay(
     order: &mut [u8],
     due: &mut [u8],
 ) -> u64
-    ensures { λ r. ⌜ ReplayAnswer (now (file .entry)) (now (trace .entry)) start (now (stamps .entry)) (now (order .entry)) (now (due .entry)) r (now (order .exit)) (now (due .exit)) ⌝ }
+    ensures { λ r. ⌜ ReplayAnswer (now (file .entry)) (now (trace .entry)) start (now (stamps .entry)) (now (order .entry)) (now (due .entry))
+        r (now (order .exit)) (now (due .exit)) ⌝ }
 {
     let a = on_bytes::replay_bytes(file, trace, start, stamps, order, due);
     answers::replayed(a)

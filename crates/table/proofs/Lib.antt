@@ -1,10 +1,12 @@
 pub mod RangeLaws
 pub mod RowLaws
+pub mod FitLaws
 pub mod NamedLaws
-pub mod CheckLaws
+pub mod RefusalLaws
 pub mod TestLaws
 pub mod FrameLaws
 pub mod CellLaws
 pub mod ReadLaws
 pub mod WriteLaws
 pub mod FileLaws
+pub mod OutcomeLaws

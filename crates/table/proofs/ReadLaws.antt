@@ -10,27 +10,29 @@ use borrow.Author.Tests.{le-leb, lt-leb}
 use lib.Dec.{ltb}
 use lib.ListN.{length, drop, length-append, length-drop}
 use lib.Seq.{drop-drop}
-use Rattle.model.specs.Table.{Transition, Machine}
+use Rattle.model.specs.Answers.{fields}
+use Rattle.model.specs.Table.{Transition}
 use Rattle.table.specs.declared.Refusal.{Refusal}
 use Rattle.table.specs.declared.Refusal.the-variants.{Misplaced, Full, OutOfRange, Repeated}
 use Rattle.table.specs.declared.Row.{Row}
-use Rattle.table.specs.declared.Checked.{Checked}
 use Rattle.table.specs.declared.Checked.the-variants.{Sound, Refused}
-use Rattle.table.specs.declared.Frame.{Frame}
 use Rattle.table.specs.declared.Frame.the-variants.{Bad, Took, Last}
 use Rattle.table.specs.declared.Opening.the-variants.{Opened, Shut}
 use Rattle.table.specs.declared.Counted.{Counted}
 use Rattle.table.specs.declared.Counted.the-variants.{Count, Stop}
-use Rattle.table.specs.Rows.{rows, said, putRow, cellsOf}
+use Rattle.table.specs.declared.Reading.{Reading}
+use Rattle.table.specs.Refusal.{refusalNumber, refusalPlace, checkedFields}
+use Rattle.table.specs.Rows.{rows, said, putRow, cellsOf, tableIn, tableOf}
 use Rattle.table.specs.Check.{inRange, has}
-use Rattle.table.specs.File.{headIn, readFile, readingOf, machine, stopped, whole, frameIn, Found, found, refused, ended, admitted, rowsFrom, RowsOutcome, finishOf, admitOf}
+use Rattle.table.specs.File.{headIn, readFile, bare, ReadOutcome, machine, stopped, frameIn, Listed, found, refused}
+use Rattle.table.specs.File.{ended, admitted, rowsFrom, RowsOutcome, finishOf, admitOf}
 use Rattle.table.proofs.RowLaws.{length-rows}
 use Rattle.table.proofs.FrameLaws.{took-says, admit-full}
 use Rattle.table.proofs.CellLaws.{rows-cells, put-cells}
 
 -- one record decides the next step of the scan
 module _ (states at : ℕ) (rest : List ℕ) (ts : List Transition) where
-  pub rows-bad : (room : ℕ) (r : Refusal) → frameIn at rest ≡ Bad r → rowsFrom room states at rest ts ≡ refused r
+  pub rows-bad : (room : ℕ) (r : Refusal) → frameIn at rest ≡ Bad r → rowsFrom room states at rest ts ≡ refused (refusalNumber r) (refusalPlace r)
   unfolding rowsFrom
   rows-bad zero r e = rw e
   rows-bad (suc room) r e = rw e
@@ -40,7 +42,7 @@ module _ (states at : ℕ) (rest : List ℕ) (ts : List Transition) where
   rows-last zero e = rw e
   rows-last (suc room) e = rw e
 
-  pub rows-full : (r : Row) → frameIn at rest ≡ Took r → rowsFrom 0 states at rest ts ≡ refused (Full at)
+  pub rows-full : (r : Row) → frameIn at rest ≡ Took r → rowsFrom 0 states at rest ts ≡ refused 3 at
   unfolding rowsFrom
   rows-full r e = rw e
 
@@ -79,19 +81,19 @@ unfolding admitOf
 admit-few states at n ts t f e = dite (decLt n 256) (λ h. h) (λ h. let q = rw (le-leb 256 n (omega arith)) at e in let z : _≡_ {A = ℕ} 0 1 = cc in absurd (omega arith))
 
 admit-stop : (states at n : ℕ) (ts : List Transition) (t : Transition) (x : Refusal) → n < 256 → Refused x ≡ admitOf states at n ts t
-    → (next : Found) → admitted states at ts t next ≡ refused x
+    → (next : Listed) → admitted states at ts t next ≡ refused (refusalNumber x) (refusalPlace x)
 unfolding admitOf
 admit-stop states at n ts t x h e next = by-range (inRange states t) (rw (lt-leb 256 n h) at e)
   where
-    same-refusal : (y : Refusal) → Refused x ≡ Refused y → refused y ≡ refused x
-    same-refusal y e = cc
+    same-refusal : (y : Refusal) → Refused x ≡ Refused y → refused (refusalNumber y) (refusalPlace y) ≡ refused (refusalNumber x) (refusalPlace x)
+    same-refusal y e = let f : x ≡ y = cc in rw f
 
-    by-twin : (b : Bool) → Refused x ≡ cond b (Refused (Repeated at)) Sound → cond b (refused (Repeated at)) next ≡ refused x
+    by-twin : (b : Bool) → Refused x ≡ cond b (Refused (Repeated at)) Sound → cond b (refused 5 at) next ≡ refused (refusalNumber x) (refusalPlace x)
     by-twin true e = same-refusal (Repeated at) e
     by-twin false e = let z : _≡_ {A = ℕ} 0 1 = cc in absurd (omega arith)
 
     by-range : (b : Bool) → Refused x ≡ cond b (cond (has t ts) (Refused (Repeated at)) Sound) (Refused (OutOfRange at))
-        → cond b (cond (has t ts) (refused (Repeated at)) next) (refused (OutOfRange at)) ≡ refused x
+        → cond b (cond (has t ts) (refused 5 at) next) (refused 4 at) ≡ refused (refusalNumber x) (refusalPlace x)
     by-range true e = by-twin (has t ts) e
     by-range false e = same-refusal (OutOfRange at) e
 
@@ -106,7 +108,7 @@ module _ (file : List ℕ) (states : ℕ) (cells : List ℕ) (n at : ℕ) (k : K
   ts = rows cells n
 
   -- a refusal of this record is the refusal of the whole
-  pub kept-bad : (r : Refusal) → frameIn at rest ≡ Bad r → rowsFrom 256 states 8 (drop 8 file) [] ≡ refused r
+  pub kept-bad : (r : Refusal) → frameIn at rest ≡ Bad r → rowsFrom 256 states 8 (drop 8 file) [] ≡ refused (refusalNumber r) (refusalPlace r)
   kept-bad r e = sym (k .same) ∙ rows-bad states at rest ts (256 - n) r e
 
   -- the end record ends the scan
@@ -122,7 +124,8 @@ module _ (file : List ℕ) (states : ℕ) (cells : List ℕ) (n at : ℕ) (k : K
       by c false h q = rw q (scan ∙ rw h, k .shape, k .few)
 
   -- a transition that was refused is the refusal of the whole
-  pub kept-stop : (r : Row) → frameIn at rest ≡ Took r → (x : Refusal) → Refused x ≡ admitOf states at n ts (said r) → rowsFrom 256 states 8 (drop 8 file) [] ≡ refused x
+  pub kept-stop : (r : Row) → frameIn at rest ≡ Took r → (x : Refusal) → Refused x ≡ admitOf states at n ts (said r)
+      → rowsFrom 256 states 8 (drop 8 file) [] ≡ refused (refusalNumber x) (refusalPlace x)
   kept-stop r e x q =
       sym (k .same) ∙ dite (decLt n 256)
       (λ h. let room : 256 - n ≡ suc (256 - (n + 1)) = omega arith in
@@ -146,25 +149,27 @@ module _ (file : List ℕ) (states : ℕ) (cells : List ℕ) (n at : ℕ) (k : K
       record { few = omega arith; inside = omega (arith, length-drop at file); shape = w ∙ ap cellsOf (sym rs); same = rw rs step }
 
 -- what the head and the records give together
-pub read-shut : (l : List ℕ) (r : Refusal) → headIn l ≡ Shut r → stopped r ≡ readFile l
+pub read-shut : (l : List ℕ) (r : Refusal) → headIn l ≡ Shut r → readFile l ≡ stopped (refusalNumber r) (refusalPlace r)
 unfolding readFile
 read-shut l r e = rw e
 
 module _ (l : List ℕ) (s i : ℕ) (e : headIn l ≡ Opened s i) where
-  pub read-stop : (r : Refusal) → rowsFrom 256 s 8 (drop 8 l) [] ≡ refused r → stopped r ≡ readFile l
+  pub read-stop : (n p : ℕ) → rowsFrom 256 s 8 (drop 8 l) [] ≡ refused n p → readFile l ≡ stopped n p
   unfolding readFile
-  read-stop r f = rw (e, f)
+  read-stop n p f = rw (e, f)
 
-  pub read-found : (ts : List Transition) → rowsFrom 256 s 8 (drop 8 l) [] ≡ found ts → machine (record { states = s; initial = i; transitions = ts }) ≡ readFile l
+  pub read-found : (ts : List Transition) → rowsFrom 256 s 8 (drop 8 l) [] ≡ found ts → readFile l ≡ machine (record { states = s; initial = i; transitions = ts })
   unfolding readFile
   read-found ts f = rw (e, f)
 
--- the table value that is made of the count and the cells
+-- the reader's ways out: the refusal, or the table value that is made of the count and the cells
+pub read-refused : (l : List ℕ) (r : Refusal) (a : Reading) → readFile l ≡ stopped (refusalNumber r) (refusalPlace r)
+    → (a .answer ≡ Refused r) × (a .table ≡ tableOf bare) → ReadOutcome (readFile l) (checkedFields (a .answer)) (a .table)
+read-refused l r a e x = rw e (ap checkedFields (x .0), x .1)
+
 pub read-table : (l cells : List ℕ) (s i n : ℕ) → headIn l ≡ Opened s i → RowsOutcome (rowsFrom 256 s 8 (drop 8 l) []) (Count n) cells
-    → record { answer = Sound; table = record { states = s; initial = i; count = n; cells = cells } } ≡ readingOf (readFile l)
+    → ReadOutcome (readFile l) (fields 0 0 0 0) (tableIn s i n cells)
 read-table l cells s i n e o =
-    let m : Machine = record { states = s; initial = i; transitions = rows cells n } in
-    let r : readingOf (machine m) ≡ readingOf (readFile l) = ap readingOf (read-found l s i e (rows cells n) (o .0)) in
     let c : cellsOf (rows cells n) ≡ cells = sym (o .1) in
     let k : length (rows cells n) ≡ n = length-rows cells n in
-    rw (c, k) at r
+    rw (read-found l s i e (rows cells n) (o .0)) (refl, rw (c, k))

@@ -1,5 +1,6 @@
 pub mod Refusal
 pub mod Rows
+pub mod Fit
 pub mod Check
 pub mod Tests
 pub mod File

@@ -1,10 +1,12 @@
 // The table value, its check, its reader and its writer.
 ghost use mathlib.Core.Path.{_≡_};
-ghost use Rattle.table.specs.Refusal.{refusalNumber, refusalPlace};
-ghost use Rattle.table.specs.Rows.{rowOf, tableIn};
-ghost use Rattle.table.specs.Check.{checkOf};
-ghost use Rattle.table.specs.File.{readingOf, readFile};
-ghost use Rattle.table.specs.Write.{WriteOutcome};
+ghost use Rattle.model.specs.Answers.{Tells};
+ghost use Rattle.table.specs.Refusal.{refusalNumber, refusalPlace, checkedFields};
+ghost use Rattle.table.specs.Rows.{rowOf, tableIn, machineOf};
+ghost use Rattle.table.specs.Fit.{Sound};
+ghost use Rattle.table.specs.Tests.{CheckOutcome};
+ghost use Rattle.table.specs.File.{ReadOutcome, readFile};
+ghost use Rattle.table.specs.Write.{writtenFields, WriteOutcome};
 
 mod ranges;
 mod reader;
@@ -132,9 +134,19 @@ pub fn row_of(cells: &Cells, i: usize) -> Row
     rows::row_at(cells, i)
 }
 
+// Whether the search may go through these transitions: at most 256, every number within its range. Equal ones are not looked for.
+pub fn in_limits(cells: &Cells, count: usize) -> bool
+    ensures { λ b. ⌜ Tells b (Sound (now (cells .entry)) count) ⌝ }
+{
+    if 256 < count {
+        return false;
+    }
+    ranges::all_in_range(cells, count, 32)
+}
+
 // The check of a table that is lent in parts: 3, then 4, then 5, at place 0.
 pub fn check_parts(states: u16, initial: u16, count: usize, cells: &Cells) -> Checked
-    ensures { λ r. ⌜ r ≡ checkOf (tableIn states initial count (now (cells .entry))) ⌝ }
+    ensures { λ r. ⌜ CheckOutcome (machineOf (tableIn states initial count (now (cells .entry)))) (checkedFields r) ⌝ }
 {
     if 256 < count {
         return Checked::Refused(Refusal::Full(0));
@@ -145,7 +157,7 @@ pub fn check_parts(states: u16, initial: u16, count: usize, cells: &Cells) -> Ch
     if !ranges::all_in_range(cells, count, states) {
         return Checked::Refused(Refusal::OutOfRange(0));
     }
-    if ranges::any_repeated(cells, count) {
+    if !ranges::all_unlike(cells, count) {
         return Checked::Refused(Refusal::Repeated(0));
     }
     Checked::Sound
@@ -153,14 +165,14 @@ pub fn check_parts(states: u16, initial: u16, count: usize, cells: &Cells) -> Ch
 
 // The check of a table value.
 pub fn check(t: Table) -> Checked
-    ensures { λ r. ⌜ r ≡ checkOf t ⌝ }
+    ensures { λ r. ⌜ CheckOutcome (machineOf t) (checkedFields r) ⌝ }
 {
     check_parts(t.states, t.initial, t.count, &t.cells)
 }
 
 // The table of a file, or the number and the offset of its first refusal with the table of one state and no transitions.
 pub fn read_table(file: &[u8]) -> Reading
-    ensures { λ r. ⌜ r ≡ readingOf (readFile (now (file .entry))) ⌝ }
+    ensures { λ r. ⌜ ReadOutcome (readFile (now (file .entry))) (checkedFields (r .answer)) (r .table) ⌝ }
 {
     let h = reader::head(file);
     match h {
@@ -186,7 +198,7 @@ pub fn read_table(file: &[u8]) -> Reading
 
 // The file of a table: its bytes, the places after them as they were. A refusal writes nothing.
 pub fn write_table(t: Table, out: &mut [u8]) -> Written
-    ensures { λ r. ⌜ WriteOutcome t (now (out .entry)) r (now (out .exit)) ⌝ }
+    ensures { λ r. ⌜ WriteOutcome (machineOf t) (now (out .entry)) (writtenFields r) (now (out .exit)) ⌝ }
 {
     let checked = check_parts(t.states, t.initial, t.count, &t.cells);
     if let Checked::Refused(r) = checked {

@@ -5,8 +5,12 @@ use crate::rows::has_row;
 use crate::rows::row_at;
 ghost use mathlib.Core.Path.{_≡_};
 ghost use Prim.Native.Nat.{_≤_};
+ghost use Rattle.model.specs.Answers.{Tells};
+ghost use Rattle.model.specs.Lists.{All};
+ghost use Rattle.model.specs.Table.{InRange};
 ghost use Rattle.table.specs.Rows.{rows, said};
-ghost use Rattle.table.specs.Check.{headFine, inRange, allInRange, repeats};
+ghost use Rattle.table.specs.Check.{headFine, inRange};
+ghost use Rattle.table.specs.Tests.{Unlike};
 
 // 1 to 32 states, the initial one among them.
 pub(crate) fn head_fine(states: u16, initial: u16) -> bool
@@ -61,7 +65,7 @@ pub(crate) fn in_range(states: u16, r: Row) -> bool
 // All of the first n transitions within their ranges.
 pub(crate) fn all_in_range(cells: &Cells, n: usize, states: u16) -> bool
     requires { ⌜ n ≤ 256 ⌝ }
-    ensures { λ b. ⌜ b ≡ allInRange states (rows (now (cells .entry)) n) ⌝ }
+    ensures { λ b. ⌜ Tells b (All (InRange states) (rows (now (cells .entry)) n)) ⌝ }
 {
     let mut i: usize = 0;
     while i < n {
@@ -73,17 +77,17 @@ pub(crate) fn all_in_range(cells: &Cells, n: usize, states: u16) -> bool
     true
 }
 
-// Whether one of the first n transitions equals an earlier one.
-pub(crate) fn any_repeated(cells: &Cells, n: usize) -> bool
+// No one of the first n transitions equal to an earlier one.
+pub(crate) fn all_unlike(cells: &Cells, n: usize) -> bool
     requires { ⌜ n ≤ 256 ⌝ }
-    ensures { λ b. ⌜ b ≡ repeats (now (cells .entry)) n ⌝ }
+    ensures { λ b. ⌜ Tells b (Unlike (rows (now (cells .entry)) n)) ⌝ }
 {
     let mut i: usize = 0;
     while i < n {
         if has_row(cells, i, row_at(cells, i)) {
-            return true;
+            return false;
         }
         i += 1;
     }
-    false
+    true
 }

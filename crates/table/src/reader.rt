@@ -16,12 +16,12 @@ ghost use mathlib.Core.Path.{_≡_};
 ghost use mathlib.Core.List.{[]};
 ghost use Prim.Native.Nat.{_+_, _≤_};
 ghost use lib.ListN.{length, drop};
-ghost use Rattle.table.specs.Rows.{rows, said, cellsOf};
-ghost use Rattle.table.specs.File.{rowIn, frameIn, openedIn, headIn, finishOf, readingOf, stopped, rowsFrom, RowsOutcome, admitOf, admitCells};
+ghost use Rattle.table.specs.Rows.{rows, said, cellsOf, tableOf};
+ghost use Rattle.table.specs.File.{rowIn, frameIn, openedIn, headIn, finishOf, bare, rowsFrom, RowsOutcome, admitOf, admitCells};
 
 // What a refused file gives: the table of one state and no transitions.
 pub(crate) fn refused(r: Refusal) -> Reading
-    ensures { λ a. ⌜ a ≡ readingOf (stopped r) ⌝ }
+    ensures { λ a. ⌜ (a .answer ≡ Checked.Refused r) × (a .table ≡ tableOf bare) ⌝ }
 {
     Reading {
         answer: Checked::Refused(r),
@@ -102,10 +102,10 @@ fn frame(file: &[u8], at: usize) -> Frame
     if kind != 3 {
         return Frame::Bad(Refusal::Misplaced(at));
     }
-    if size != 2 {
-        return Frame::Bad(Refusal::Cut(at));
+    if size == 2 {
+        return Frame::Last;
     }
-    Frame::Last
+    Frame::Bad(Refusal::Cut(at))
 }
 
 // A transition after n others: 3, 4, 5, else it is stored.

@@ -1,13 +1,3 @@
-pub mod SoundLaws
-pub mod ReachLaws
-pub mod RoundLaws
-pub mod SplitLaws
-pub mod WalkLaws
-pub mod BestLaws
-pub mod EndLaws
-pub mod NeighbourLaws
-pub mod BackLaws
 pub mod ShownLaws
 pub mod DecideLaws
 pub mod OnlyLaws
-pub mod RoomLaws

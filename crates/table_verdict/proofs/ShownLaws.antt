@@ -1,187 +1,160 @@
--- The shown split: its trace and its word, store by store.
+-- The shown traces and their words, store by store.
 use mathlib.Core.Path.{_≡_, refl, sym, ap, _∙_}
-use mathlib.Core.Logic.{dite}
-use mathlib.Core.List.{List, [], _∷_, _++_, map, map-append, append-assoc}
-use Prim.Native.Nat.{ℕ, suc, _+_, _-_, _≤_, _<_, min}
-use native.Mathlib.Decide.{decLt}
+use mathlib.Core.Logic.{⊎-elim}
+use mathlib.Core.List.{List, [], _∷_, _++_, append-assoc}
+use Prim.Native.Nat.{ℕ, suc, _+_, _-_, _≤_, _<_}
 use native.Mathlib.Numerals.{add-one}
 use native.Mathlib.Omega.{arith}
-use borrow.Author.Tests.{lt-ltb, le-ltb}
 use lib.ListN.{length, getD, take, drop, set, length-append, length-drop}
 use lib.Seq.{set-at, drop-cons, drop-drop, drop-append-add, take-at}
-use Rattle.model.specs.Lists.{All}
+use Rattle.model.specs.Lists.{over}
 use Rattle.model.specs.Table.{Transition, at}
 use Rattle.model.specs.Trace.{Trace, steps}
-use Rattle.model.specs.Shown.{lateGap, lateWord, splitWord, symbol}
-use Rattle.model.specs.Stamps.{stampsOf, stampsAfter, shownStamps}
-use Rattle.model.proofs.Lists.{all-append}
-use Rattle.model.proofs.Paths.{trace-append, steps-last, trace-known, trace-ranged}
-use Rattle.model.proofs.StampLaws.{stamps-last, early-late}
+use Rattle.model.specs.Criterion.{TurnsTo}
+use Rattle.model.specs.Shown.{splitWord}
+use Rattle.model.specs.Stamps.{stampsOf, shownStamps}
+use Rattle.model.proofs.Paths.{trace-append, trace-ranged}
 use Rattle.table.specs.declared.Row.{Row}
-use Rattle.table.specs.Rows.{rows, rowOf, named}
+use Rattle.table.specs.Rows.{rows, rowOf, said, named}
+use Rattle.table.specs.Fit.{Sound}
+use Rattle.table.proofs.FitLaws.{row-said, row-ranged}
 use Rattle.table.proofs.RowLaws.{length-rows}
-use Rattle.table.proofs.NamedLaws.{named-steps, named-trace}
-use Rattle.words.specs.Left.{Ready, wordLeft, wordsLeft}
-use Rattle.words.proofs.WordLaws.{word-plain, words-plain}
-use Rattle.table_verdict.specs.Sound.{Sound}
-use Rattle.table_verdict.specs.Reach.{mark, wayTo, WayFits, WayStands}
-use Rattle.table_verdict.specs.Shown.{ShowRoom, walkedTo, earlier}
-use Rattle.table_verdict.specs.Walks.{TurnsTo, ShownLeast}
-use Rattle.table_verdict.proofs.SoundLaws.{row-said, row-ranged}
-use Rattle.table_verdict.proofs.ReachLaws.{way-length}
+use Rattle.table.proofs.NamedLaws.{named-trace}
+use Rattle.words.specs.Left.{Bounded, splitLeft, wordsLeft}
+use Rattle.words.proofs.WordLaws.{split-plain, words-plain}
+use Rattle.reach.specs.Reach.{WayStands}
+use Rattle.reach.proofs.ReachLaws.{WayShown, way-shown}
+use Rattle.walks.specs.Walks.{TurnsAfter, ShownLeast, WalkOutcome}
+use Rattle.table_verdict.specs.declared.show.Walked.{Walked}
+use Rattle.table_verdict.specs.Shown.{TraceRoom, wayFor, walkedTo, TurnTraced}
 
 -- one store where the old content begins
-pub store-next : (p d : List ℕ) (k x : ℕ) → length p ≡ k → k < length d → set (p ++ drop k d) k x ≡ (p ++ (x ∷ [])) ++ drop (k + 1) d
+store-next : (p d : List ℕ) (k x : ℕ) → length p ≡ k → k < length d → set (p ++ drop k d) k x ≡ (p ++ (x ∷ [])) ++ drop (k + 1) d
 store-next p d k x e h = rw (add-one k, drop-cons d k 0 h, append-assoc) (set-at p (getD d k 0) (drop (suc k) d) x k e)
 
--- and one store over it
-pub store-over : (p r : List ℕ) (k x y : ℕ) → length p ≡ k → set ((p ++ (x ∷ [])) ++ r) k y ≡ (p ++ (y ∷ [])) ++ r
-store-over p r k x y e = rw (append-assoc, append-assoc p (y ∷ []) r) (set-at p x r y k e)
+-- the words of a trace of at most 512 steps
+trace-ready : {c : List ℕ} {n : ℕ} → Sound c n → (s e : ℕ) (l : List ℕ) → Trace (rows c n) s l e → length l ≤ 512 → Bounded c l
+trace-ready {c} {n} sound s e l p few = record {
+  few = few;
+  states = 32;
+  ranged = rw (named-trace c n (sound .few) s e l p) (trace-ranged (rows c n) (sound .ranged) s e l p);
+}
 
--- the lesser v has the lesser late gap
-later-late : (s t : Transition) → t .v < s .v → min (lateGap s) (lateGap t) ≡ lateGap t
-unfolding lateGap
-later-late s t h = omega arith
-
-first-late : (s t : Transition) → s .v ≤ t .v → min (lateGap s) (lateGap t) ≡ lateGap s
-unfolding lateGap
-first-late s t h = omega arith
-
--- the stamps look at gaps alone
-last-gap : (tr : List Transition) (s t : Transition) (g : ℕ) → g ≡ lateGap t
-    → stampsAfter 0 (map (λ t. symbol t (lateGap t)) tr ++ (symbol s g ∷ [])) ≡ stampsOf (lateWord (tr ++ (t ∷ [])))
-unfolding lateWord
-last-gap tr s t g e =
-    stamps-last 0 (map (λ t. symbol t (lateGap t)) tr) (symbol s g)
-    ∙ rw (e, map-append (λ t. symbol t (lateGap t)) tr (t ∷ [])) (sym (stamps-last 0 (map (λ t. symbol t (lateGap t)) tr) (symbol t (lateGap t))))
-
-module _ (c : List ℕ) (n : ℕ) (dist via : List ℕ) (i : ℕ) (trace stamps : List ℕ) (sound : Sound c n)
-    (room : ShowRoom (rows c n) dist via i trace stamps) where
+-- the way to the state that transition i leaves has been written, with its row in hand
+module _ {c : List ℕ} {n : ℕ} {dist via : List ℕ} {i : ℕ} {trace : List ℕ} (sound : Sound c n) (room : TraceRoom (rows c n) dist via i trace)
+    (r : Row) (read : r ≡ rowOf c i) {k : ℕ} {one : List ℕ} (wrote : WayStands c dist via (r .from) trace one k) where
   abbrev ts : List Transition
   ts = rows c n
 
   abbrev way : List ℕ
-  way = wayTo ts dist via (at ts i .from)
+  way = wayFor ts dist via i
 
   pub first-known : i < n
   first-known = omega (arith, room .first, length-rows c n)
 
-  pub way-few : length way ≤ 31
-  way-few = omega (arith, way-length ts via (mark dist (at ts i .from) - 1) (at ts i .from), room .marked, room .most)
+  here : said r ≡ at ts i
+  here = row-said sound i first-known read
 
-  leaves : (r : Row) → r ≡ rowOf c i → r .from ≡ at ts i .from
-  leaves r e = ap (λ (t : Transition). t .from) (row-said sound i first-known e)
+  shown : WayShown ts (room .initial) dist via (at ts i .from) trace one k
+  shown =
+      let e : r .from ≡ at ts i .from = ap (λ (t : Transition). t .from) here in
+      way-shown sound (room .reach) (room .marked) (omega (arith, room .places)) (rw e at wrote)
 
-  pub way-fits : (r : Row) → r ≡ rowOf c i → WayFits ts dist via (r .from) (length trace)
-  way-fits r e = rw (leaves r e) (record { linked = room .linked; marked = room .marked; room = omega (arith, room .most, room .places) })
+  pub way-number : k ≡ length way
+  way-number = shown .number
 
-  module _ (r : Row) (e : r ≡ rowOf c i) (k : ℕ) (one : List ℕ) (w : WayStands ts dist via (r .from) trace one k) where
-    pub way-number : k ≡ length way
-    way-number = w .number ∙ ap (λ (s : ℕ). mark dist s - 1) (leaves r e) ∙ sym (way-length ts via (mark dist (at ts i .from) - 1) (at ts i .from))
+  pub way-short : k ≤ 31
+  way-short = shown .few
 
-    pub way-stands : one ≡ way ++ drop (length way) trace
-    way-stands = let q : k ≡ length way = way-number in rw (leaves r e, q) at (w .traced)
+  way-stands : one ≡ way ++ drop (length way) trace
+  way-stands = rw way-number at (shown .traced)
 
-    pub one-long : length one ≡ length trace
-    one-long = ap length way-stands ∙ simp (length-append, length-drop) (omega (arith, way-few, room .places))
+  pub one-long : length one ≡ length trace
+  one-long = ap length way-stands ∙ simp (length-append, length-drop) (omega (arith, way-number, way-short, room .places))
 
-  -- the transition with the lesser v at the end
-  pub end-stands : (x : ℕ) → set (way ++ drop (length way) trace) (length way) x ≡ (way ++ (x ∷ [])) ++ drop (length way + 1) trace
-  end-stands x = store-next way trace (length way) x refl (omega (arith, way-few, room .places))
+  -- what the stores ask for
+  pub bounds : (k ≤ 31) × (length one ≡ length trace) × (270 ≤ length trace) × (i < 256)
+  bounds = (way-short, one-long, room .places, omega (arith, first-known, sound .few))
 
-  pub front : (x : ℕ) (r : List ℕ) → take (length way + 1) ((way ++ (x ∷ [])) ++ r) ≡ way ++ (x ∷ [])
-  front x r = take-at (way ++ (x ∷ [])) r (length way + 1) (length-append way (x ∷ []))
+  way-front : take k one ≡ way
+  way-front = ap (take k) way-stands ∙ take-at way (drop (length way) trace) k (sym way-number)
 
-  known : (x : ℕ) → x < n → All (λ y. y < n) (way ++ (x ∷ []))
-  known x h =
-      all-append (rw (length-rows c n) at (trace-known ts (room .start) (at ts i .from) way (room .path))) (All.all-cons h All.all-nil)
+  -- a split: i at the end of the way
+  pub split-traced : set one k i ≡ over (way ++ (i ∷ [])) trace
+  split-traced =
+      let h : length way < length trace = omega (arith, way-number, way-short, room .places) in
+      rw (way-number, way-stands, length-append way (i ∷ [])) (store-next way trace (length way) i refl h)
 
-  ready : (x : ℕ) → x < n → Ready c (way ++ (x ∷ []))
-  ready x h =
-      let s : named c (way ++ (x ∷ [])) ≡ steps ts way ++ (at ts x ∷ []) = named-steps c n (sound .few) (way ++ (x ∷ [])) (known x h) ∙ steps-last ts way x in
+  -- and its word
+  pub split-stamped : {j : ℕ} → j < n → (s : Row) → s ≡ rowOf c j → (stamps after : List ℕ) → 540 ≤ length stamps
+      → after ≡ splitLeft c (take k one) (said r) (said s) stamps → after ≡ over (stampsOf (splitWord (steps ts way) (at ts i) (at ts j))) stamps
+  split-stamped {j} h s e stamps after places w =
+      let q : after ≡ splitLeft c way (at ts i) (at ts j) stamps = rw (way-front, here, row-said sound j h e) at w in
+      let y : Bounded c way = trace-ready sound (room .initial) (at ts i .from) way (shown .path) (omega (arith, way-number, way-short)) in
+      q ∙ rw (named-trace c n (sound .few) (room .initial) (at ts i .from) way (shown .path))
+      at (split-plain c way (at ts i) (at ts j) stamps y (row-ranged sound i first-known) (omega (arith, way-number, way-short)))
+
+  -- the walk behind the way
+  behind-way : (q more : ℕ) → q ≡ length way + more → drop q one ≡ drop q trace
+  behind-way q more e =
+      ap (drop q) way-stands ∙ rw e (drop-append-add way (drop (length way) trace) more ∙ drop-drop more (length way) trace)
+
+  walked : {out : List ℕ} {more : ℕ} → ShownLeast ts i k one out more → TurnTraced ts dist via i trace (record { before = k; all = k + more }) out
+  walked {out} {more} w =
+      let t : TurnsTo ts i (w .m) = w .walk .turns in
+      let l : List ℕ = walkedTo ts dist via i (t .rest) (w .m) in
+      let len : length l ≡ k + more = simp length-append (omega (arith, way-number, w .walk .number)) in
+      let b : drop (k + more) one ≡ drop (length l) trace =
+      behind-way (k + more) more (omega (arith, way-number)) ∙ ap (λ (x : ℕ). drop x trace) (sym len) in
       record {
-        few = simp length-append (omega (arith, way-few));
-        states = sound .states;
-        ranged = rw s (all-append (trace-ranged ts (sound .ranged) (room .start) (at ts i .from) way (room .path)) (All.all-cons (row-ranged sound x h) All.all-nil));
+        m = w .m;
+        turns = t;
+        before = way-number;
+        whole = sym len;
+        few = omega (arith, len, way-short, w .walk .few);
+        traced = w .walk .traced ∙ rw (way-front, b) (sym (append-assoc way (i ∷ (t .rest ++ (w .m ∷ []))) (drop (length l) trace)));
       }
 
-  -- the word that is written with x at the end is the late word of that trace
-  late-stands : (x : ℕ) → x < n → wordLeft c (way ++ (x ∷ [])) 0 0 stamps ≡ stampsOf (lateWord (steps ts way ++ (at ts x ∷ []))) ++ drop (length way + 1) stamps
-  late-stands x h =
-      let s : named c (way ++ (x ∷ [])) ≡ steps ts way ++ (at ts x ∷ []) = named-steps c n (sound .few) (way ++ (x ∷ [])) (known x h) ∙ steps-last ts way x in
-      let l : length (way ++ (x ∷ [])) ≡ length way + 1 = length-append way (x ∷ []) in
-      let p = word-plain c (way ++ (x ∷ [])) 0 0 stamps (ready x h) (omega (arith, l, way-few, room .stamps-places)) in
-      rw (s, l, early-late (steps ts way ++ (at ts x ∷ [])) 0) at p
+  pub turn-traced : TurnsAfter ts i → {out : List ℕ} {more : ℕ} → WalkOutcome c n i k one out more
+      → TurnTraced ts dist via i trace (record { before = k; all = k + more }) out
+  turn-traced after o = ⊎-elim (λ x. walked (x .1)) (λ x. absurd (x .0 (record {
+    sound = sound;
+    known = first-known;
+    room = omega (arith, one-long, way-short, room .places);
+    after = after;
+  }))) o
 
-  pub split-stands : (j : ℕ) → j < n → (r s : Row) (x : ℕ) → r ≡ rowOf c i → s ≡ rowOf c j → x ≡ earlier (r .v) (s .v) i j
-      → wordLeft c (way ++ (x ∷ [])) 0 0 stamps ≡ stampsOf (splitWord (steps ts way) (at ts i) (at ts j)) ++ drop (length way + 1) stamps
-  unfolding splitWord
-  split-stands j second-known r s x e f q =
-      let vi : r .v ≡ at ts i .v = ap (λ (t : Transition). t .v) (row-said sound i first-known e) in
-      let vj : s .v ≡ at ts j .v = ap (λ (t : Transition). t .v) (row-said sound j second-known f) in
-      dite (decLt (s .v) (r .v))
-      (λ h. let y : x ≡ j = q ∙ rw (lt-ltb (s .v) (r .v) h) in
-      rw y (late-stands j second-known ∙ ap (λ (l : List ℕ). l ++ drop (length way + 1) stamps) (sym (last-gap (steps ts way) (at ts i) (at ts j) _ (later-late (at ts i) (at ts j) (omega arith))))))
-      (λ h. let y : x ≡ i = q ∙ rw (le-ltb (s .v) (r .v) (omega arith)) in
-      rw y (late-stands i first-known ∙ ap (λ (l : List ℕ). l ++ drop (length way + 1) stamps) (sym (last-gap (steps ts way) (at ts i) (at ts i) _ (first-late (at ts i) (at ts j) (omega arith))))))
+  pub more-few : {out : List ℕ} {more : ℕ} → WalkOutcome c n i k one out more → k + more ≤ 270
+  more-few o = ⊎-elim (λ x. omega (arith, way-short, x .1 .walk .few)) (λ x. omega (arith, way-short, x .1)) o
 
-  -- what the stores of the code leave
-  module _ (one : List ℕ) (k x : ℕ) (number : k ≡ length way) (stands : one ≡ way ++ drop (length way) trace) where
-    pub split-traced : set (set one k x) k i ≡ (way ++ (i ∷ [])) ++ drop (length way + 1) trace
-    split-traced = rw (number, stands, end-stands x) (store-over way (drop (length way + 1) trace) (length way) x i refl)
+-- the trace is written: its words
+module _ {c : List ℕ} {n : ℕ} {dist via : List ℕ} {i : ℕ} {trace : List ℕ} (sound : Sound c n) (room : TraceRoom (rows c n) dist via i trace)
+    {w : Walked} {out : List ℕ} (t : TurnTraced (rows c n) dist via i trace w out) where
+  abbrev all : List ℕ
+  all = walkedTo (rows c n) dist via i (t .turns .rest) (t .m)
 
-    pub split-taken : take (k + 1) (set one k x) ≡ way ++ (x ∷ [])
-    split-taken = rw (number, stands, end-stands x) (front x (drop (length way + 1) trace))
+  all-long : length out ≡ length trace
+  all-long = ap length (t .traced) ∙ length-append all (drop (length all) trace) ∙ omega (arith, length-drop (length all) trace, t .few, room .places)
 
-  behind-way : (q more : ℕ) → q ≡ length way + more → drop q (way ++ drop (length way) trace) ≡ drop q trace
-  behind-way q more e = rw e (drop-append-add way (drop (length way) trace) more ∙ drop-drop more (length way) trace)
+  -- what the parts that are lent ask for
+  pub trace-bounds : (w .before + 2 ≤ w .all) × (w .all ≤ 270) × (length out ≡ length trace) × (270 ≤ length trace)
+  trace-bounds =
+      let e : length all ≡ length (wayFor (rows c n) dist via i) + (2 + length (t .turns .rest)) = simp length-append (omega arith) in
+      (omega (arith, t .whole, t .before), omega (arith, t .whole, t .few), all-long, room .places)
 
-  -- the same for a walk behind the way
-  module _ (p : ℕ) (one out : List ℕ) (more : ℕ) (number : p ≡ length way) (stands : one ≡ way ++ drop (length way) trace)
-      (w : ShownLeast ts i p one out more) where
-    abbrev turns : TurnsTo ts i (w .m)
-    turns = w .walk .turns
-
-    abbrev shown : List ℕ
-    shown = walkedTo ts dist via i (turns .rest) (w .m)
-
-    pub shown-length : length shown ≡ p + more
-    shown-length = simp length-append (omega (arith, number, w .walk .number))
-
-    pub shown-few : length shown ≤ 270
-    shown-few = omega (arith, shown-length, number, way-few, w .walk .few)
-
-    pub turn-traced : out ≡ shown ++ drop (length shown) trace
-    turn-traced =
-        let a : take p one ≡ way = ap (take p) stands ∙ take-at way (drop (length way) trace) p (sym number) in
-        let b : drop (p + more) one ≡ drop (length shown) trace =
-        ap (drop (p + more)) stands ∙ behind-way (p + more) more (omega (arith, number)) ∙ ap (λ (x : ℕ). drop x trace) (sym shown-length) in
-        w .walk .traced ∙ rw (a, b) (sym (append-assoc way (i ∷ (turns .rest ++ (w .m ∷ []))) (drop (length shown) trace)))
-
-    pub out-long : length out ≡ length trace
-    out-long = ap length turn-traced ∙ length-append shown (drop (length shown) trace) ∙ omega (arith, length-drop (length shown) trace, shown-few, room .places)
-
-    pub turn-taken : (all : ℕ) → all ≡ p + more → take all out ≡ shown
-    turn-taken all e = ap (take all) turn-traced ∙ take-at shown (drop (length shown) trace) all (shown-length ∙ sym e)
-
-    shown-path : Trace ts (room .start) shown (turns .end)
-    shown-path = trace-append ts (room .start) (at ts i .from) (turns .end) way _ (room .path) (room .first, refl, turns .walk)
-
-    shown-named : named c shown ≡ steps ts shown
-    shown-named = named-trace c n (sound .few) (room .start) (turns .end) shown shown-path
-
-    shown-ready : Ready c shown
-    shown-ready = record {
-      few = omega (arith, shown-few);
-      states = sound .states;
-      ranged = rw shown-named (trace-ranged ts (sound .ranged) (room .start) (turns .end) shown shown-path);
-    }
-
-    pub turn-stamped : (last : ℕ) → last + 1 ≡ p + more
-        → wordsLeft c shown p last stamps ≡ shownStamps (steps ts shown) (length way) (length way + suc (length (turns .rest))) stamps
-    turn-stamped last e =
-        let q = words-plain c shown p last stamps shown-ready (omega (arith, shown-few, room .stamps-places)) in
-        let z : last ≡ length way + suc (length (turns .rest)) = omega (arith, number, w .walk .number) in
-        (rw shown-named at q)
-        ∙ ap (λ (x : ℕ). shownStamps (steps ts shown) x last stamps) number
-        ∙ ap (λ (x : ℕ). shownStamps (steps ts shown) (length way) x stamps) z
+  pub turn-stamped : (way-path : Trace (rows c n) (room .initial) (wayFor (rows c n) dist via i) (at (rows c n) i .from))
+      (stamps after : List ℕ) → 540 ≤ length stamps → after ≡ wordsLeft c (take (w .all) out) (w .before) (w .all - 1) stamps
+      → after ≡ over (shownStamps (steps (rows c n) all) (length (wayFor (rows c n) dist via i))
+      (length (wayFor (rows c n) dist via i) + suc (length (t .turns .rest)))) stamps
+  turn-stamped way-path stamps after places e =
+      let ts : List Transition = rows c n in
+      let way : List ℕ = wayFor ts dist via i in
+      let front : take (w .all) out ≡ all = ap (take (w .all)) (t .traced) ∙ take-at all (drop (length all) trace) (w .all) (sym (t .whole)) in
+      let last : w .all - 1 ≡ length way + suc (length (t .turns .rest)) =
+      (let z : length all ≡ length way + (2 + length (t .turns .rest)) = simp length-append (omega arith) in omega (arith, t .whole)) in
+      let path : Trace ts (room .initial) all (t .turns .end) =
+      trace-append ts (room .initial) (at ts i .from) (t .turns .end) way _ way-path (room .first, refl, t .turns .walk) in
+      let y : Bounded c all = trace-ready sound (room .initial) (t .turns .end) all path (omega (arith, t .few)) in
+      let q : after ≡ wordsLeft c all (length way) (length way + suc (length (t .turns .rest))) stamps = rw (front, t .before, last) at e in
+      q ∙ rw (named-trace c n (sound .few) (room .initial) (t .turns .end) all path)
+      at (words-plain c all (length way) (length way + suc (length (t .turns .rest))) stamps y (omega (arith, t .few)))

@@ -1,30 +1,25 @@
--- The trace that an answer shows is free; what two outcomes for one table and one lent memory agree in all the same.
+-- The trace that an answer shows is free; what two answers for one table agree in all the same, by their fields and by the places of the trace:
+-- those of a value call, or the numbers in the bytes of a buffer.
 use mathlib.Core.Path.{_≡_}
-use mathlib.Core.List.{List, []}
+use mathlib.Core.List.{List}
 use Prim.Native.Nat.{ℕ, _-_, _≤_, _<_}
 use lib.ListN.{length, take, getD}
-use Rattle.table.specs.declared.Refusal.{Refusal}
-use Rattle.table_verdict.specs.declared.OnTable.{OnTable}
-use Rattle.table_verdict.specs.declared.OnTable.the-variants.{Strict as StrictTable, Split, Turning, Refused}
+use Rattle.model.specs.Answers.{Fields}
 
 -- the trace that an answer shows: as many of the trace places as it has steps
-abbrev pub shownTrace : OnTable → List ℕ → List ℕ
-shownTrace StrictTable trace = []
-shownTrace (Split i j n) trace = take n trace
-shownTrace (Turning k m) trace = take m trace
-shownTrace (Refused r) trace = []
+abbrev pub shownIn : Fields → List ℕ → List ℕ
+shownIn f places = take (f .steps) places
 
 -- the transition at a step, "counted from 1"
 abbrev pub atStep : List ℕ → ℕ → ℕ
 atStep l k = getD l (k - 1) 0
 
--- answer, trace places and stamp places of one outcome, then of the other: one kind, and of each kind what is not free
-pub data Agree : OnTable → List ℕ → List ℕ → OnTable → List ℕ → List ℕ → Type 0 where
-  agree-refused : {r : Refusal} {trace stamps : List ℕ} → Agree (Refused r) trace stamps (Refused r) trace stamps
-  agree-strict : {trace stamps : List ℕ} → Agree StrictTable trace stamps StrictTable trace stamps
-  agree-split : {i j n n' : ℕ} {trace stamps trace' stamps' : List ℕ} → Agree (Split i j n) trace stamps (Split i j n') trace' stamps'
-  agree-turning : {k m k' m' : ℕ} {trace stamps trace' stamps' : List ℕ} → atStep (take m trace) k ≡ atStep (take m' trace') k'
-      → Agree (Turning k m) trace stamps (Turning k' m') trace' stamps'
+-- one number; of strict and of a refusal all; of a split I and J; of a turning trace the transition at K
+pub record Agree (f : Fields) (places : List ℕ) (g : Fields) (places' : List ℕ) : Type 0 where
+  pub kind : f .status ≡ g .status
+  pub plain : f .status < 256 → f ≡ g
+  pub split : f .status ≡ 256 → (f .first ≡ g .first) × (f .second ≡ g .second)
+  pub turning : f .status ≡ 257 → atStep (shownIn f places) (f .first) ≡ atStep (shownIn g places') (g .first)
 
 -- K and M by the shown trace alone: M is its length, and K the first step that is the transition at K
 pub record ByTrace (shown : List ℕ) (k m : ℕ) : Type 0 where

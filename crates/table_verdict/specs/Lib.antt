@@ -1,11 +1,4 @@
 pub mod OnTable
-pub mod Sound
-pub mod Reach
-pub mod Rounds
-pub mod Split
-pub mod Walks
-pub mod Neighbours
-pub mod Best
+pub mod Agree
 pub mod Shown
 pub mod Decided
-pub mod Agree

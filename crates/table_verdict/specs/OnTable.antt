@@ -1,67 +1,68 @@
 -- The verdict on a whole table, and what it leaves in the lent memory.
 use mathlib.Core.Path.{_≡_}
-use mathlib.Core.Logic.{_⊎_}
 use mathlib.Core.List.{List, [], _∷_, _++_}
 use Prim.Native.Nat.{ℕ, suc, _+_, _≤_, _<_}
-use lib.ListN.{length, drop, getD}
+use lib.ListN.{length, getD}
+use Rattle.model.specs.Answers.{Fields, fields}
+use Rattle.model.specs.Lists.{over, LeastPair}
 use Rattle.model.specs.Table.{Machine, at}
 use Rattle.model.specs.Trace.{Trace, steps}
-use Rattle.model.specs.Word.{Activates}
+use Rattle.model.specs.Word.{Word, Activates}
 use Rattle.model.specs.Verdict.{Turns, TurnsFrom, Splits, SplitPair, Strict, OnlyTurns}
 use Rattle.model.specs.Shown.{Shows, splitWord}
 use Rattle.model.specs.Stamps.{stampsOf, shownStamps}
-use Rattle.table.specs.declared.Table.{Table}
-use Rattle.table.specs.declared.Refusal.{Refusal}
-use Rattle.table.specs.declared.Refusal.the-variants.{NoRoom}
-use Rattle.table.specs.Rows.{machineOf}
-use Rattle.table.specs.Tests.{Test, unless, Passes, Fails, afterTable}
+use Rattle.table.specs.Refusal.{refusedFields}
+use Rattle.table.specs.Tests.{Test, unless, Answered, afterTable}
 use Rattle.table_verdict.specs.declared.OnTable.{OnTable}
 use Rattle.table_verdict.specs.declared.OnTable.the-variants.{Strict as StrictTable, Split, Turning, Refused}
 
--- "A table verdict always needs 270 trace places and 540 stamp places."
-abbrev pub tableTests : Table → List ℕ → List ℕ → List Test
-tableTests t trace₀ stamps₀ = afterTable t (unless NoRoom ((270 ≤ length trace₀) × (540 ≤ length stamps₀)) ∷ [])
+-- split: 256, the transitions I and J, n steps; turning: 257, the steps K and M counted from 1, the last of which is M
+abbrev pub tableFields : OnTable → Fields
+tableFields StrictTable = fields 0 0 0 0
+tableFields (Split i j n) = fields 256 i j n
+tableFields (Turning k m) = fields 257 k m m
+tableFields (Refused r) = refusedFields r
 
--- "Least first number, then least second"
-pub record LeastSplit (m : Machine) (i j : ℕ) : Type 0 where
-  pub pair : SplitPair m i j
-  pub least : (x y : ℕ) → SplitPair m x y → (i < x) ⊎ ((i ≡ x) × (j ≤ y))
+-- "A table verdict always needs 270 trace places and 540 stamp places."
+abbrev pub tableTests : Machine → List ℕ → List ℕ → List Test
+tableTests m trace₀ stamps₀ = afterTable m (unless 8 ((270 ≤ length trace₀) × (540 ≤ length stamps₀)) ∷ [])
+
+-- the word of a split, after the way to the state
+abbrev pub wordAfter : Machine → List ℕ → ℕ → ℕ → Word
+wordAfter m way i j = splitWord (steps (m .transitions) way) (at (m .transitions) i) (at (m .transitions) j)
 
 -- a shown split: the way to the state, then i in the first trace and j in the second; one word activates both
-pub record AnswersSplit (m : Machine) (trace₀ stamps₀ : List ℕ) (i j n : ℕ) (trace stamps : List ℕ) : Type 0 where
+pub record ShowsSplit (m : Machine) (i j : ℕ) (way : List ℕ) : Type 0 where
   pub splits : Splits m
-  pub pair : LeastSplit m i j
-  pub way : List ℕ
+  pub pair : LeastPair (SplitPair m) i j
   pub path : Trace (m .transitions) (m .initial) way (at (m .transitions) i .from)
-  pub number : n ≡ length way + 1
-  pub few : n ≤ 270
-  pub act-first : Activates (steps (m .transitions) (way ++ (i ∷ []))) (splitWord (steps (m .transitions) way) (at (m .transitions) i) (at (m .transitions) j))
-  pub act-second : Activates (steps (m .transitions) (way ++ (j ∷ []))) (splitWord (steps (m .transitions) way) (at (m .transitions) i) (at (m .transitions) j))
-  pub traced : trace ≡ (way ++ (i ∷ [])) ++ drop n trace₀
-  pub stamped : stamps ≡ stampsOf (splitWord (steps (m .transitions) way) (at (m .transitions) i) (at (m .transitions) j)) ++ drop n stamps₀
+  pub few : length way + 1 ≤ 270
+  pub act-first : Activates (steps (m .transitions) (way ++ (i ∷ []))) (wordAfter m way i j)
+  pub act-second : Activates (steps (m .transitions) (way ++ (j ∷ []))) (wordAfter m way i j)
 
 -- a shown turning trace: "shown with the lowest-numbered reachable transition that can be step k of a turning pair. The trace ends at m"
-pub record AnswersTurning (m : Machine) (trace₀ stamps₀ : List ℕ) (first second : ℕ) (trace stamps : List ℕ) : Type 0 where
+pub record ShowsTurning (m : Machine) (shown : List ℕ) (k last : ℕ) : Type 0 where
   pub only : OnlyTurns m
-  pub shown : List ℕ
   pub end : ℕ
   pub path : Trace (m .transitions) (m .initial) shown end
   pub few : length shown ≤ 270
-  pub k : ℕ
-  pub last : ℕ
-  pub first-step : first ≡ suc k
-  pub second-step : second ≡ suc last
   pub ends : length shown ≡ suc last
   pub lowest : (i : ℕ) → TurnsFrom m i → getD shown k 0 ≤ i
   pub earliest : (x : ℕ) → x < k → getD shown x 0 ≡ getD shown k 0 → ⊥
   pub turns : Turns (steps (m .transitions) shown) k last
   pub shows : Shows (steps (m .transitions) shown) k last
-  pub traced : trace ≡ shown ++ drop (length shown) trace₀
-  pub stamped : stamps ≡ shownStamps (steps (m .transitions) shown) k last stamps₀
 
-abbrev pub TableOutcome : Table → List ℕ → List ℕ → OnTable → List ℕ → List ℕ → Type 0
-TableOutcome t trace₀ stamps₀ StrictTable trace stamps =
-    Passes (tableTests t trace₀ stamps₀) × Strict (machineOf t) × (trace ≡ trace₀) × (stamps ≡ stamps₀)
-TableOutcome t trace₀ stamps₀ (Split i j n) trace stamps = Passes (tableTests t trace₀ stamps₀) × AnswersSplit (machineOf t) trace₀ stamps₀ i j n trace stamps
-TableOutcome t trace₀ stamps₀ (Turning k m) trace stamps = Passes (tableTests t trace₀ stamps₀) × AnswersTurning (machineOf t) trace₀ stamps₀ k m trace stamps
-TableOutcome t trace₀ stamps₀ (Refused r) trace stamps = Fails (tableTests t trace₀ stamps₀) r × (trace ≡ trace₀) × (stamps ≡ stamps₀)
+-- what is answered of a machine, on values and on bytes: strict, memory kept; or a trace and stamps, of which `Left` says how they stand in the
+-- lent memory. A split shows the first of its two traces.
+pub data TableSays (m : Machine) (Kept : Type 0) (Left : List ℕ → List ℕ → Type 0) (f : Fields) : Type 0 where
+  says-strict : f ≡ fields 0 0 0 0 → Strict m → Kept → TableSays m Kept Left f
+  says-split : {i j : ℕ} {way : List ℕ} → f ≡ fields 256 i j (length way + 1) → ShowsSplit m i j way
+      → Left (way ++ (i ∷ [])) (stampsOf (wordAfter m way i j)) → TableSays m Kept Left f
+  says-turning : {shown : List ℕ} {k last : ℕ} → f ≡ fields 257 (suc k) (suc last) (suc last) → ShowsTurning m shown k last
+      → Left shown (shownStamps (steps (m .transitions) shown) k last) → TableSays m Kept Left f
+
+abbrev pub TableOutcome : Machine → List ℕ → List ℕ → Fields → List ℕ → List ℕ → Type 0
+TableOutcome m trace₀ stamps₀ f trace stamps =
+    Answered (tableTests m trace₀ stamps₀)
+    (TableSays m ((trace ≡ trace₀) × (stamps ≡ stamps₀)) (λ l s. (trace ≡ over l trace₀) × (stamps ≡ over s stamps₀)))
+    ((trace ≡ trace₀) × (stamps ≡ stamps₀)) f

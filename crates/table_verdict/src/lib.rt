@@ -3,16 +3,11 @@ use table::Cells;
 use table::Checked;
 use table::Refusal;
 use table::Table;
-ghost use Rattle.table.specs.Rows.{tableIn};
-ghost use Rattle.table_verdict.specs.OnTable.{TableOutcome};
+ghost use Rattle.table.specs.Rows.{tableIn, machineOf};
+ghost use Rattle.table_verdict.specs.OnTable.{tableFields, TableOutcome};
 
 mod decide;
-mod neighbours;
-mod reach;
-mod search;
 mod show;
-mod split;
-mod walk;
 
 pub enum OnTable {
     Strict,
@@ -31,7 +26,8 @@ pub fn judge_parts(
     trace: &mut [u16],
     stamps: &mut [u32],
 ) -> OnTable
-    ensures { λ r. ⌜ TableOutcome (tableIn states initial count (now (cells .entry))) (now (trace .entry)) (now (stamps .entry)) r (now (trace .exit)) (now (stamps .exit)) ⌝ }
+    ensures { λ r. ⌜ TableOutcome (machineOf (tableIn states initial count (now (cells .entry)))) (now (trace .entry)) (now (stamps .entry))
+        (tableFields r) (now (trace .exit)) (now (stamps .exit)) ⌝ }
 {
     let checked = table::check_parts(states, initial, count, cells);
     if let Checked::Refused(r) = checked {
@@ -43,14 +39,12 @@ pub fn judge_parts(
     if stamps.len() < 540 {
         return OnTable::Refused(Refusal::NoRoom);
     }
-    let mut dist = [0u16; 32];
-    let mut via = [0u16; 32];
-    decide::decide(cells, count, initial, &mut dist, &mut via, trace, stamps)
+    decide::decide(cells, count, initial, trace, stamps)
 }
 
 // The verdict on a table value.
 pub fn judge_table(t: Table, trace: &mut [u16], stamps: &mut [u32]) -> OnTable
-    ensures { λ r. ⌜ TableOutcome t (now (trace .entry)) (now (stamps .entry)) r (now (trace .exit)) (now (stamps .exit)) ⌝ }
+    ensures { λ r. ⌜ TableOutcome (machineOf t) (now (trace .entry)) (now (stamps .entry)) (tableFields r) (now (trace .exit)) (now (stamps .exit)) ⌝ }
 {
     judge_parts(t.states, t.initial, t.count, &t.cells, trace, stamps)
 }

@@ -10,15 +10,19 @@ use lib.ListN.{length, getD, take, drop, length-drop}
 use lib.Seq.{take-suc, take-add, getD-drop}
 use Rattle.model.specs.Lists.{All, total, between}
 use Rattle.model.specs.Table.{Transition, InRange, at, none}
-use Rattle.model.specs.Span.{sumU, sumV, Criterion}
+use Rattle.model.specs.Shown.{lateGap}
+use Rattle.model.specs.Span.{sumU, sumLate}
+use Rattle.model.specs.Criterion.{Crosses, Criterion}
+use Rattle.model.proofs.CriterionLaws.{above-bound}
+use Rattle.model.proofs.Words.{late-most}
 use Rattle.model.proofs.Lists.{total-append, total-const, length-between, all-at, all-between, all-total}
 use Rattle.table.specs.declared.Row.{Row}
 use Rattle.table.specs.Rows.{rowOf, said, named}
 use Rattle.table.proofs.NamedLaws.{length-named, step-named}
-use Rattle.words.specs.Left.{Ready}
+use Rattle.words.specs.Left.{Bounded}
 use Rattle.verdict.specs.declared.pairs.Partner.the-variants.{With, Alone}
 use Rattle.verdict.specs.declared.pairs.Pair.the-variants.{At, Nowhere}
-use Rattle.verdict.specs.Pairs.{Between, PartnerOf, PairOf}
+use Rattle.verdict.specs.Pairs.{PartnerOf, PairOf}
 
 -- the sum over the steps after k and before m
 abbrev pub sofar : (Transition → ℕ) → List Transition → ℕ → ℕ → ℕ
@@ -40,24 +44,24 @@ sum-grows f tr k m j h =
     let e : j - k ≡ (m - k) + (j - k - (m - k)) = omega arith in
     rw (e, take-add (m - k) (j - k - (m - k)) l) (omega (arith, total-append f (take (m - k) l) (take (j - k - (m - k)) (drop (m - k) l))))
 
--- the search from k, whose delay is d, stands before step m: the sums over the steps between, none of which turns with k
-pub record Looked (c l : List ℕ) (k d m u v : ℕ) : Type 0 where
-  pub ready : Ready c l
-  pub delay : d ≡ at (named c l) k .d
+-- the search from k, which is f, stands before step m: the sums over the steps between, none of which turns with k
+pub record Looked (c l : List ℕ) (k : ℕ) (f : Transition) (m u late : ℕ) : Type 0 where
+  pub ready : Bounded c l
+  pub first : f ≡ at (named c l) k
   pub after : k < m
   pub near : m ≤ k + 239
   pub within : m ≤ length l
   pub low : u ≡ sofar (λ t. t .u) (named c l) k m
-  pub high : v ≡ sofar (λ t. t .v) (named c l) k m
+  pub high : late ≡ sofar lateGap (named c l) k m
   pub none-yet : (j : ℕ) → j < m → Criterion (named c l) k j → ⊥
 
 module _ {c l : List ℕ} {k : ℕ} where
-  pub looked-first : Ready c l → k < length l → (s : Row) → s ≡ rowOf c (getD l k 0) → Looked c l k (s .d) (k + 1) 0 0
+  pub looked-first : Bounded c l → k < length l → (s : Row) → s ≡ rowOf c (getD l k 0) → Looked c l k (said s) (k + 1) 0 0
   looked-first r h s e =
       let z : k + 1 - suc k ≡ 0 = omega arith in
       record {
         ready = r;
-        delay = ap (λ t. t .d) (step-named c l k h s e);
+        first = step-named c l k h s e;
         after = omega arith;
         near = omega arith;
         within = omega arith;
@@ -66,11 +70,12 @@ module _ {c l : List ℕ} {k : ℕ} where
         none-yet = λ j b x. omega (arith, x .ordered);
       }
 
-  pub looked-last : {d m u v : ℕ} → Looked c l k d m u v → length l ≤ m → PartnerOf (named c l) k Alone
+  pub looked-last : {f : Transition} {m u late : ℕ} → Looked c l k f m u late → length l ≤ m → PartnerOf (named c l) k Alone
   looked-last seen h j x = seen .none-yet j (omega (arith, x .inside, length-named c l)) x
 
 -- the code looks at step m, whose row is s
-module _ {c l : List ℕ} {k d m u v : ℕ} (seen : Looked c l k d m u v) (here : m < length l) (s : Row) (read : s ≡ rowOf c (getD l m 0)) where
+module _ {c l : List ℕ} {k : ℕ} {f : Transition} {m u late : ℕ} (seen : Looked c l k f m u late) (here : m < length l)
+    (s : Row) (read : s ≡ rowOf c (getD l m 0)) (g : ℕ) (gap : g ≡ lateGap (said s)) where
   abbrev tr : List Transition
   tr = named c l
 
@@ -81,69 +86,71 @@ module _ {c l : List ℕ} {k d m u v : ℕ} (seen : Looked c l k d m u v) (here 
   inside = rw (length-named c l) here
 
   next-low : u + s .u ≡ sumU tr k m
-  next-low = omega (arith, ap (λ t. t .u) es, sum-next (λ t. t .u) tr k m (seen .after) inside)
+  next-low = omega (arith, ap (λ t. t .u) es, seen .low, sum-next (λ t. t .u) tr k m (seen .after) inside)
 
-  next-high : v + s .v ≡ sumV tr k m
-  next-high = omega (arith, ap (λ t. t .v) es, sum-next (λ t. t .v) tr k m (seen .after) inside)
+  next-high : late + g ≡ sumLate tr k m
+  next-high = omega (arith, gap, ap lateGap es, seen .high, sum-next lateGap tr k m (seen .after) inside)
 
   -- the sums of at most 512 steps
-  pub next-small : (u + s .u ≤ 2096640) × (v + s .v ≤ 2096640) × (s .d ≤ 240)
+  pub next-small : (u + s .u ≤ 2096640) × (late + g ≤ 536739840)
   next-small =
       let b : List Transition = between k m tr in
-      let g : All (InRange (seen .ready .states)) b = all-between k m (seen .ready .ranged) in
-      let n : length b ≤ 512 = omega (arith, length-between k m tr inside, length-named c l) in
-      let most : total (λ t. 4095) b ≤ 2096640 = omega (arith, total-const 4095 b) in (
-        omega (arith, next-low, all-total (λ t. t .u) (λ t. 4095) (λ t x. omega (arith, x .wide, x .high)) g),
-        omega (arith, next-high, all-total (λ t. t .v) (λ t. 4095) (λ t x. x .high) g),
-        omega (arith, ap (λ t. t .d) es, all-at none (seen .ready .ranged) m inside),
+      let fine : All (InRange (seen .ready .states)) b = all-between k m (seen .ready .ranged) in
+      let n : length b ≤ 512 = omega (arith, length-between k m tr inside, length-named c l) in (
+        omega (arith, next-low, total-const 4095 b, all-total (λ t. t .u) (λ t. 4095) (λ t x. omega (arith, x .wide, x .high)) fine),
+        omega (arith, next-high, total-const 1048320 b, all-total lateGap (λ t. 1048320) late-most fine),
       )
 
   -- the sum of u has reached k's d less the least d
-  pub none-later : d ≤ u + s .u + 1 → PartnerOf tr k Alone
+  pub none-later : f .d ≤ u + s .u + 1 → PartnerOf tr k Alone
   none-later h j x =
       dite (decLt j m) (λ a. seen .none-yet j a x) (λ b.
-      omega (arith, x .above, next-low, sum-grows (λ t. t .u) tr k m j (omega arith), all-at none (seen .ready .ranged) j (x .inside) .soon))
-
-  turns-so : Between (u + s .u) (v + s .v) d (s .d) ↔ Criterion tr k m
-  turns-so = (
-    λ b. record {
-      ordered = seen .after;
-      inside = inside;
-      above = omega (arith, next-low, ap (λ t. t .d) es);
-      below = omega (arith, next-high, ap (λ t. t .d) es);
-    },
-    λ x. record { above = omega (arith, next-low, ap (λ t. t .d) es); below = omega (arith, next-high, ap (λ t. t .d) es) },
-  )
-
-  pub turns-here : Between (u + s .u) (v + s .v) d (s .d) → PartnerOf tr k (With m)
-  turns-here b = (turns-so .0 b, λ j x. dite (decLt j m) (λ a. absurd (seen .none-yet j a x)) (λ b. omega arith))
-
-  -- each u is at least 1 and d at most 240: no more than 238 steps are passed
-  next-near : u + s .u + 1 < d → m - k ≤ 238
-  next-near h =
-      let b : List Transition = between k m tr in
-      let g : total (λ t. 1) b ≤ sumU tr k m = all-total (λ t. 1) (λ t. t .u) (λ t x. x .low) (all-between k m (seen .ready .ranged)) in
       omega (
         arith,
+        ap (λ t. t .d) (seen .first),
+        next-low,
+        sum-grows (λ t. t .u) tr k m j (omega arith),
+        above-bound (at tr k) (at tr j) (sumU tr k j) 1 (at tr k .d) (x .crosses .above) (all-at none (seen .ready .ranged) j (x .inside) .soon) (omega arith),
+      ))
+
+  -- what the code asks is the criterion
+  asked : Crosses f (said s) (u + s .u) (late + g) ≡ Crosses (at tr k) (at tr m) (sumU tr k m) (sumLate tr k m)
+  asked = rw (seen .first, next-low, next-high, es)
+
+  pub turns-here : Crosses f (said s) (u + s .u) (late + g) → PartnerOf tr k (With m)
+  turns-here b = (
+    record { ordered = seen .after; inside = inside; crosses = rw asked at b },
+    λ j x. dite (decLt j m) (λ a. absurd (seen .none-yet j a x)) (λ b. omega arith),
+  )
+
+  -- each u is at least 1 and d at most 240: no more than 238 steps are passed
+  next-near : u + s .u + 1 < f .d → m - k ≤ 238
+  next-near h =
+      let b : List Transition = between k m tr in
+      let ones : total (λ t. 1) b ≤ sumU tr k m = all-total (λ t. 1) (λ t. t .u) (λ t x. x .low) (all-between k m (seen .ready .ranged)) in
+      omega (
+        arith,
+        ap (λ t. t .d) (seen .first),
         next-low,
         total-const 1 b,
         length-between k m tr inside,
         all-at none (seen .ready .ranged) k (omega (arith, inside)),
       )
 
-  pub looked-more : u + s .u + 1 < d → (Between (u + s .u) (v + s .v) d (s .d) → ⊥) → Looked c l k d (m + 1) (u + s .u) (v + s .v)
-  looked-more below f =
+  pub looked-more : u + s .u + 1 < f .d → (Crosses f (said s) (u + s .u) (late + g) → ⊥)
+      → Looked c l k f (m + 1) (u + s .u) (late + g)
+  looked-more below no-turn =
       let e : m + 1 - suc k ≡ m - k = omega arith in
       record {
         ready = seen .ready;
-        delay = seen .delay;
+        first = seen .first;
         after = omega arith;
         near = omega (arith, next-near below);
         within = omega arith;
         low = rw e next-low;
         high = rw e next-high;
         none-yet = λ j h x. ⊎-elim
-            (λ (q : j ≡ m). f (turns-so .1 (rw q at x)))
+            (λ (q : j ≡ m). no-turn (rw asked (rw q at (x .crosses))))
             (λ (a : j < m). seen .none-yet j a x)
             (eq-or-lt-of-le (omega arith));
       }
@@ -167,8 +174,8 @@ module _ {tr : List Transition} {k : ℕ} (p : Passed tr k) where
 
   pub least-here : (m : ℕ) → PartnerOf tr k (With m) → PairOf tr (At k m)
   unfolding Passed
-  least-here m w = (
-    w .0,
-    λ i j c. dite (decLt i k) (λ l. absurd (p i j l c)) (λ n.
-        ⊎-elim (λ (e : k ≡ i). inr (e, w .1 j (rw e c))) inl (eq-or-lt-of-le (omega arith))),
-  )
+  least-here m w = record {
+    pair = w .0;
+    least = λ i j c. dite (decLt i k) (λ l. absurd (p i j l c)) (λ n.
+        ⊎-elim (λ (e : k ≡ i). inr (e, w .1 j (rw e c))) inl (eq-or-lt-of-le (omega arith)));
+  }

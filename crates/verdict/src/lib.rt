@@ -3,7 +3,9 @@ use crate::pairs::Pair;
 use table::Checked;
 use table::Refusal;
 use table::Table;
-ghost use Rattle.verdict.specs.OnTrace.{TraceOutcome};
+ghost use lib.ListN.{length};
+ghost use Rattle.table.specs.Rows.{machineOf};
+ghost use Rattle.verdict.specs.OnTrace.{traceFields, TraceOutcome};
 
 mod pairs;
 
@@ -15,7 +17,8 @@ pub enum OnTrace {
 
 // Whether two activating timings give different orders; if so, the least pair and the late and the early word.
 pub fn judge_trace(t: Table, trace: &[u16], stamps: &mut [u32]) -> OnTrace
-    ensures { λ r. ⌜ TraceOutcome t (now (trace .entry)) (now (stamps .entry)) r (now (stamps .exit)) ⌝ }
+    ensures { λ r. ⌜ TraceOutcome (machineOf t) (now (trace .entry)) (now (stamps .entry))
+        (traceFields (length (now (trace .entry))) r) (now (stamps .exit)) ⌝ }
 {
     let checked = table::check_parts(t.states, t.initial, t.count, &t.cells);
     if let Checked::Refused(r) = checked {

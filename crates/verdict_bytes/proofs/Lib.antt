@@ -1,4 +1,2 @@
-pub mod TraceLaws
-pub mod TraceOnly
 pub mod TableLaws
 pub mod TableOnly

@@ -1,132 +1,83 @@
 -- The verdict on a table in bytes by the call on values.
 use mathlib.Core.Path.{_≡_, refl, sym, ap, _∙_}
-use mathlib.Core.List.{List, [], _∷_, _++_, append-assoc, append-nil}
-use Prim.Native.Nat.{ℕ, _*_, _≤_}
+use mathlib.Core.List.{List, [], _∷_, _++_}
+use Prim.Native.Nat.{ℕ, _+_, _*_, _≤_}
 use native.Mathlib.Omega.{arith}
 use lib.ListN.{length, take, drop, length-append}
-use lib.Seq.{drop-nil}
-use Rattle.model.specs.Table.{Transition, Machine, at}
+use Rattle.model.specs.Answers.{Fields}
+use Rattle.model.specs.Lists.{over}
+use Rattle.model.specs.Table.{Machine, Valid, at}
 use Rattle.model.specs.Trace.{steps}
-use Rattle.model.specs.Word.{Word, Activates}
-use Rattle.model.specs.Shown.{earlyWord, lateWord, splitWord}
-use Rattle.model.specs.Stamps.{stampsOf}
-use Rattle.model.proofs.Lists.{both-length}
+use Rattle.model.specs.Stamps.{stampsOf, shownStamps}
 use Rattle.model.proofs.Paths.{length-steps}
-use Rattle.model.proofs.StampLaws.{length-stamps}
+use Rattle.model.proofs.StampLaws.{shown-stamps, split-stamps}
 use Rattle.wire.specs.Bytes.{bytes, placed}
-use Rattle.table.specs.declared.Table.{Table}
-use Rattle.table.specs.declared.Refusal.{Refusal}
-use Rattle.table.specs.declared.Refusal.the-variants.{NoRoom}
-use Rattle.table.specs.declared.Checked.the-variants.{Sound}
-use Rattle.table.specs.Rows.{machineOf}
-use Rattle.table.specs.Check.{checkOf}
-use Rattle.table.specs.Tests.{Test, unless, Passes}
+use Rattle.table.specs.Tests.{Test, unless, Passes, Fails, refuses, answers}
 use Rattle.table.proofs.TestLaws.{passes-fails}
-use Rattle.table_verdict.specs.declared.OnTable.the-variants.{Strict, Split, Turning, Refused}
-use Rattle.table_verdict.specs.OnTable.{TableOutcome}
-use Rattle.places.proofs.PlaceLaws.{back}
+use Rattle.table_verdict.specs.declared.OnTable.the-variants.{Split, Turning}
+use Rattle.table_verdict.specs.OnTable.{tableFields, tableTests, wordAfter, says-strict, says-split, says-turning, TableOutcome}
+use Rattle.places.proofs.PlaceLaws.{back-over}
 use Rattle.places.proofs.AgreeLaws.{after-fails}
 use Rattle.verdict_bytes.specs.Tables.{roomTests, TableOnMachine}
 
--- a word that activates a trace has a stamp for each step
-stamps-long : (ts : List Transition) (l : List ℕ) (w : Word) → Activates (steps ts l) w → length (stampsOf w) ≡ length l
-stamps-long ts l w a = length-stamps 0 (w .symbols) ∙ sym (both-length a) ∙ length-steps ts l
-
--- with no memory behind it a list stands alone
-pub alone : (n : ℕ) (l : List ℕ) → l ≡ l ++ drop n []
-alone n l = sym (ap (λ (r : List ℕ). l ++ r) (drop-nil n) ∙ append-nil l)
-
 -- what is shown, written back from the front of what came back
-shown-back : (w n : ℕ) (xs more came l out : List ℕ) → length xs ≡ n → n * w ≤ length l → came ≡ xs ++ more
-    → out ≡ placed l 0 (bytes w (take n came)) → out ≡ bytes w xs ++ drop (w * length xs) l
-shown-back w n xs more came l out e h f g = g ∙ rw (f, e) (back w n xs more l e h)
+written : (w n : ℕ) (xs more came l out : List ℕ) → length xs ≡ n → n * w ≤ length l → came ≡ over xs more → out ≡ placed l 0 (bytes w (take n came))
+    → out ≡ over (bytes w xs) l
+written w n xs more came l out e h f g = g ∙ rw f (back-over w n xs (drop (length xs) more) l e h)
 
 -- the call on values with 270 and 540 places t₀ and s₀
-module _ (t : Table) (t₀ s₀ : List ℕ) where
+module _ (m : Machine) (valid : Valid m) (t₀ s₀ : List ℕ) (long : (length t₀ ≡ 270) × (length s₀ ≡ 540)) where
   -- no test is left that could fail
-  pub called-never : (r : Refusal) {u s : List ℕ} → checkOf t ≡ Sound → (length t₀ ≡ 270) × (length s₀ ≡ 540) → TableOutcome t t₀ s₀ (Refused r) u s → ⊥
-  called-never r sound long x =
-      let space : List Test = unless NoRoom ((270 ≤ length t₀) × (540 ≤ length s₀)) ∷ [] in
-      passes-fails space r ((omega arith, omega arith), tt) (after-fails t sound space r (x .0))
+  never : (n p : ℕ) → Fails (tableTests m t₀ s₀) n p → ⊥
+  never n p x =
+      let tests : List Test = unless 8 ((270 ≤ length t₀) × (540 ≤ length s₀)) ∷ [] in
+      passes-fails tests n p ((omega arith, omega arith), tt) (after-fails m valid tests n p x)
 
   -- a shown trace is not longer than the room
-  pub turning-few : {k l : ℕ} {u s : List ℕ} → TableOutcome t t₀ s₀ (Turning k l) u s → l ≤ 270
-  turning-few (p, a) = omega (arith, a .few, a .ends, a .second-step)
+  pub turning-few : {k l : ℕ} {u v : List ℕ} → TableOutcome m t₀ s₀ (tableFields (Turning k l)) u v → l ≤ 270
+  turning-few (refuses {n = n} {p = p} e x k) = absurd (never n p x)
+  turning-few (answers p (says-strict e s k)) = absurd (omega (arith, ap (λ f. f .status) e))
+  turning-few (answers p (says-split e a q)) = absurd (omega (arith, ap (λ f. f .status) e))
+  turning-few (answers p (says-turning e a q)) = omega (arith, ap (λ f. f .second) e, a .ends, a .few)
 
--- and behind bytes with as much room
-module _ (t : Table) (trace₀ stamps₀ t₀ s₀ : List ℕ) (room : Passes (roomTests trace₀ stamps₀)) where
-  abbrev m : Machine
-  m = machineOf t
+  -- behind bytes with as much room
+  module _ (trace₀ stamps₀ : List ℕ) (room : Passes (roomTests trace₀ stamps₀)) where
+    -- what is neither split nor turning writes nothing
+    pub on-kept : {f : Fields} {u v : List ℕ} → f .status ≤ 255 → TableOutcome m t₀ s₀ f u v → TableOnMachine m trace₀ stamps₀ f trace₀ stamps₀
+    on-kept h (refuses {n = n} {p = p} e x k) = absurd (never n p x)
+    on-kept h (answers p (says-strict e s k)) = answers room (says-strict e s (refl, refl))
+    on-kept h (answers p (says-split e a q)) = absurd (omega (arith, ap (λ f. f .status) e))
+    on-kept h (answers p (says-turning e a q)) = absurd (omega (arith, ap (λ f. f .status) e))
 
-  pub called-strict : {u s : List ℕ} → TableOutcome t t₀ s₀ Strict u s → TableOnMachine m trace₀ stamps₀ Strict trace₀ stamps₀
-  called-strict x = (room, x .1, refl, refl)
+    -- a split writes its trace and one stamp for each step
+    pub on-split : {i j n : ℕ} {u v trace stamps : List ℕ} → TableOutcome m t₀ s₀ (tableFields (Split i j n)) u v
+        → trace ≡ placed trace₀ 0 (bytes 2 (take n u)) → stamps ≡ placed stamps₀ 0 (bytes 4 (take n v))
+        → TableOnMachine m trace₀ stamps₀ (tableFields (Split i j n)) trace stamps
+    on-split (refuses {n = n} {p = p} e x k) f g = absurd (never n p x)
+    on-split (answers p (says-strict e s k)) f g = absurd (omega (arith, ap (λ f. f .status) e))
+    on-split {n = n} {u = u} {v = v} {trace = trace} {stamps = stamps} (answers p (says-split {i = i} {j = j} {way = way} e a q)) f g =
+        let ts = m .transitions in
+        let c : n ≡ length way + 1 = ap (λ f. f .steps) e in
+        let one : length (way ++ (i ∷ [])) ≡ n = length-append way (i ∷ []) ∙ sym c in
+        let word : length (stampsOf (wordAfter m way i j)) ≡ n = omega (arith, split-stamps (steps ts way) (at ts i) (at ts j), length-steps ts way) in
+        answers room (says-split e a (
+          written 2 n (way ++ (i ∷ [])) t₀ u trace₀ trace one (omega (arith, a .few, room)) (q .0) f,
+          written 4 n (stampsOf (wordAfter m way i j)) s₀ v stamps₀ stamps word (omega (arith, a .few, room)) (q .1) g,
+        ))
+    on-split (answers p (says-turning e a q)) f g = absurd (omega (arith, ap (λ f. f .status) e))
 
-  pub called-split : {i j n : ℕ} {u s trace stamps : List ℕ} → TableOutcome t t₀ s₀ (Split i j n) u s
-      → trace ≡ placed trace₀ 0 (bytes 2 (take n u)) → stamps ≡ placed stamps₀ 0 (bytes 4 (take n s))
-      → TableOnMachine m trace₀ stamps₀ (Split i j n) trace stamps
-  called-split {i} {j} {n} {u} {s} {trace} {stamps} (p, a) e f =
-      let ts : List Transition = m .transitions in
-      let one : List ℕ = a .way ++ (i ∷ []) in
-      let w : Word = splitWord (steps ts (a .way)) (at ts i) (at ts j) in
-      let k : length one ≡ n = length-append (a .way) (i ∷ []) ∙ sym (a .number) in
-      let few : n ≤ 270 = a .few in (
-        room,
-        record {
-          steps = one;
-          marks = stampsOf w;
-          shown = record {
-            splits = a .splits;
-            pair = a .pair;
-            way = a .way;
-            path = a .path;
-            number = a .number;
-            few = a .few;
-            act-first = a .act-first;
-            act-second = a .act-second;
-            traced = alone n one;
-            stamped = alone n (stampsOf w);
-          };
-          traced = shown-back 2 n one (drop n t₀) u trace₀ trace k (omega arith) (a .traced) e;
-          stamped = shown-back 4 n (stampsOf w) (drop n s₀) s stamps₀ stamps (stamps-long ts one w (a .act-first) ∙ k) (omega arith) (a .stamped) f;
-        },
-      )
-
-  pub called-turning : {k l : ℕ} {u s trace stamps : List ℕ} → TableOutcome t t₀ s₀ (Turning k l) u s
-      → trace ≡ placed trace₀ 0 (bytes 2 (take l u)) → stamps ≡ placed stamps₀ 0 (bytes 4 (take (2 * l) s))
-      → TableOnMachine m trace₀ stamps₀ (Turning k l) trace stamps
-  called-turning {k} {l} {u} {s} {trace} {stamps} (p, a) e f =
-      let ts : List Transition = m .transitions in
-      let late : Word = lateWord (steps ts (a .shown)) in
-      let early : Word = earlyWord (steps ts (a .shown)) (a .k) (a .last) in
-      let one : List ℕ = stampsOf late in
-      let two : List ℕ = stampsOf early in
-      let n : length (a .shown) ≡ l = a .ends ∙ sym (a .second-step) in
-      let few : l ≤ 270 = turning-few t t₀ s₀ (p, a) in
-      let both : length (one ++ two) ≡ 2 * l =
-      length-append one two ∙ omega (arith, stamps-long ts (a .shown) late (a .shows .act-late), stamps-long ts (a .shown) early (a .shows .act-early)) in (
-        room,
-        record {
-          steps = a .shown;
-          marks = one ++ two;
-          shown = record {
-            only = a .only;
-            shown = a .shown;
-            end = a .end;
-            path = a .path;
-            few = a .few;
-            k = a .k;
-            last = a .last;
-            first-step = a .first-step;
-            second-step = a .second-step;
-            ends = a .ends;
-            lowest = a .lowest;
-            earliest = a .earliest;
-            turns = a .turns;
-            shows = a .shows;
-            traced = alone (length (a .shown)) (a .shown);
-            stamped = ap (λ (r : List ℕ). one ++ r) (alone (2 * length (steps ts (a .shown))) two);
-          };
-          traced = shown-back 2 l (a .shown) (drop (length (a .shown)) t₀) u trace₀ trace n (omega arith) (a .traced) e;
-          stamped = shown-back 4 (2 * l) (one ++ two) _ s stamps₀ stamps both (omega arith) (a .stamped ∙ sym (append-assoc one two _)) f;
-        },
-      )
+    -- a turning answer writes its trace and both words, two stamps for each step
+    pub on-turning : {k l : ℕ} {u v trace stamps : List ℕ} → TableOutcome m t₀ s₀ (tableFields (Turning k l)) u v
+        → trace ≡ placed trace₀ 0 (bytes 2 (take l u)) → stamps ≡ placed stamps₀ 0 (bytes 4 (take (2 * l) v))
+        → TableOnMachine m trace₀ stamps₀ (tableFields (Turning k l)) trace stamps
+    on-turning (refuses {n = n} {p = p} e x k) f g = absurd (never n p x)
+    on-turning (answers p (says-strict e s k)) f g = absurd (omega (arith, ap (λ f. f .status) e))
+    on-turning (answers p (says-split e a q)) f g = absurd (omega (arith, ap (λ f. f .status) e))
+    on-turning {l = l} {u = u} {v = v} {trace = trace} {stamps = stamps} (answers p (says-turning {shown = shown} {k = k} {last = last} e a q)) f g =
+        let tr = steps (m .transitions) shown in
+        let one : length shown ≡ l = a .ends ∙ sym (ap (λ f. f .second) e) in
+        let words : length (shownStamps tr k last) ≡ 2 * l = omega (arith, shown-stamps tr k last, length-steps (m .transitions) shown) in
+        answers room (says-turning e a (
+          written 2 l shown t₀ u trace₀ trace one (omega (arith, a .few, room)) (q .0) f,
+          written 4 (2 * l) (shownStamps tr k last) s₀ v stamps₀ stamps words (omega (arith, a .few, room)) (q .1) g,
+        ))

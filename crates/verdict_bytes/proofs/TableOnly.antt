@@ -1,30 +1,26 @@
 -- Two outcomes that the verdict on a table file allows agree in all but the trace that is shown, and in everything if they show one trace.
 use mathlib.Core.Path.{_≡_, refl, sym, ap, _∙_}
-use mathlib.Core.List.{List, [], _∷_, _++_}
+use mathlib.Core.List.{List, _∷_}
 use Prim.Native.Nat.{ℕ, zero, suc, _+_, _*_, _/_, _≤_, _<_}
 use native.Mathlib.Omega.{arith}
-use lib.ListN.{length, take, length-append}
-use lib.Seq.{take-all}
-use Rattle.model.specs.Lists.{All, all-nil, all-cons}
+use lib.ListN.{length, take, drop, length-append}
+use Rattle.model.specs.Answers.{Fields}
+use Rattle.model.specs.Lists.{All, all-nil, all-cons, over}
 use Rattle.model.specs.Table.{Machine}
 use Rattle.model.proofs.Lists.{all-append}
 use Rattle.model.proofs.Paths.{trace-known}
-use Rattle.model.proofs.Verdict.{not-strict-and-splits, not-strict-and-turns, not-splits-and-turns}
 use Rattle.wire.specs.Bytes.{bytes, Bytes, les, le, wholes}
 use Rattle.wire.proofs.Bytes.{Fits, les-bytes, length-bytes}
-use Rattle.table.specs.declared.Refusal.{Refusal}
-use Rattle.table.specs.File.{Scan, machine, stopped, readFile}
-use Rattle.table.specs.Tests.{Test}
-use Rattle.table.proofs.TestLaws.{passes-fails, fails-only}
-use Rattle.table.proofs.FileLaws.{sound}
+use Rattle.table.specs.File.{readFile}
+use Rattle.table.specs.Tests.{refuses, answers}
+use Rattle.table.proofs.TestLaws.{answered-only, answered-done}
+use Rattle.table.proofs.FileLaws.{sound, places}
 use Rattle.table_verdict.specs.declared.OnTable.{OnTable}
-use Rattle.table_verdict.specs.declared.OnTable.the-variants.{Strict, Split, Turning, Refused}
-use Rattle.table_verdict.specs.OnTable.{AnswersSplit, AnswersTurning}
-use Rattle.table_verdict.specs.Agree.{shownTrace, atStep, Agree, agree-refused, agree-strict, agree-split, agree-turning, ByTrace}
-use Rattle.table_verdict.proofs.OnlyLaws.{pair-only, split-same, turn-step, turn-only, turn-by, turn-same, by-trace-only}
-use Rattle.places.specs.OnFile.{onFile}
-use Rattle.verdict_bytes.specs.Tables.{roomTests, ShownBytes, TableOnMachine, JudgeTableBytesOutcome}
-use Rattle.verdict_bytes.proofs.TableLaws.{alone}
+use Rattle.table_verdict.specs.OnTable.{tableFields, TableSays, says-strict, says-split, says-turning}
+use Rattle.table_verdict.specs.Agree.{shownIn, Agree, ByTrace}
+use Rattle.table_verdict.proofs.OnlyLaws.{answer-only, says-by, says-agree, says-only}
+use Rattle.places.proofs.ReadingLaws.{of-file}
+use Rattle.verdict_bytes.specs.Tables.{TableOnMachine, JudgeTableBytesOutcome}
 
 -- the first of numbers in a row
 take-les : (w n k : ℕ) (l : List ℕ) (j : ℕ) → n ≤ k → take n (les w k l j) ≡ les w n l j
@@ -32,124 +28,115 @@ take-les w zero k l j h = refl
 take-les w (suc n) zero l j h = absurd (omega arith)
 take-les w (suc n) (suc k) l j h = ap (λ (r : List ℕ). le w l j ∷ r) (take-les w n k l (j + w) (omega arith))
 
+-- numbers that are written over lent bytes stand first in them
+numbers-front : (l old : List ℕ) → Fits 2 l → take (length l) (wholes 2 (over (bytes 2 l) old)) ≡ l
+numbers-front l old f =
+    let rest : List ℕ = drop (length (bytes 2 l)) old in
+    let long : length (over (bytes 2 l) old) ≡ length l * 2 + length rest = length-append (bytes 2 l) rest ∙ rw (length-bytes 2 l) in
+    take-les 2 (length l) (length (over (bytes 2 l) old) / 2) (over (bytes 2 l) old) 0 (omega arith) ∙ les-bytes 2 l rest f
+
 -- numbers of transitions fit two bytes
 known-fits : (n : ℕ) → n ≤ 256 → {l : List ℕ} → All (λ i. i < n) l → Fits 2 l
 known-fits n few all-nil = tt
 known-fits n few (all-cons h a) = (omega arith, known-fits n few a)
 
--- the shown trace stands first in the trace memory
-shown-read : (n k : ℕ) (xs rest trace : List ℕ) → k ≤ 256 → All (λ i. i < k) xs → length xs ≡ n → trace ≡ bytes 2 xs ++ rest
-    → take n (wholes 2 trace) ≡ take n xs
-shown-read n k xs rest trace few a e f =
-    let long : length trace ≡ length xs * 2 + length rest = ap length f ∙ length-append (bytes 2 xs) rest ∙ rw (length-bytes 2 xs) in
-    let g : les 2 n trace 0 ≡ xs = rw (f, ← e) (les-bytes 2 xs rest (known-fits k few a)) in
-    take-les 2 n (length trace / 2) trace 0 (omega arith) ∙ g ∙ sym (take-all n xs (omega arith))
+-- one file and one lent memory
+module _ (trace₀ stamps₀ : List ℕ) where
+  -- the lent memory as it was
+  abbrev Kept : List ℕ → List ℕ → Type 0
+  Kept trace stamps = (trace ≡ trace₀) × (stamps ≡ stamps₀)
 
-module _ (m : Machine) (few : length (m .transitions) ≤ 256) (trace₀ stamps₀ : List ℕ) where
-  abbrev tests : List Test
-  tests = roomTests trace₀ stamps₀
+  -- a trace that fits two bytes a step and its stamps, in bytes
+  abbrev Left : List ℕ → List ℕ → List ℕ → List ℕ → Type 0
+  Left trace stamps l s = Fits 2 l × ((trace ≡ over (bytes 2 l) trace₀) × (stamps ≡ over (bytes 4 s) stamps₀))
 
-  split-read : {i j n : ℕ} {trace stamps : List ℕ} (x : ShownBytes (AnswersSplit m [] [] i j n) trace₀ stamps₀ trace stamps)
-      → take n (wholes 2 trace) ≡ take n (x .steps)
-  split-read {i} {j} {n} {trace} x =
-      let a = x .shown in
-      let e : x .steps ≡ a .way ++ (i ∷ []) = a .traced ∙ sym (alone n (a .way ++ (i ∷ []))) in
-      let h : i < length (m .transitions) = omega (arith, a .pair .pair .ordered, a .pair .pair .inside) in
-      let known : All (λ y. y < length (m .transitions)) (x .steps) = rw e (all-append (trace-known _ _ _ (a .way) (a .path)) (all-cons h all-nil)) in
-      let long : length (x .steps) ≡ n = ap length e ∙ length-append (a .way) (i ∷ []) ∙ sym (a .number) in
-      shown-read n _ (x .steps) _ trace few known long (x .traced)
+  reads : (trace stamps l s : List ℕ) → Left trace stamps l s → take (length l) (wholes 2 trace) ≡ l
+  reads trace stamps l s p = rw (p .1 .0) (numbers-front l trace₀ (p .0))
 
-  turn-read : {k l : ℕ} {trace stamps : List ℕ} (x : ShownBytes (AnswersTurning m [] [] k l) trace₀ stamps₀ trace stamps)
-      → take l (wholes 2 trace) ≡ take l (x .steps)
-  turn-read {k} {l} {trace} x =
-      let a = x .shown in
-      let e : x .steps ≡ a .shown = a .traced ∙ sym (alone (length (a .shown)) (a .shown)) in
-      let known : All (λ y. y < length (m .transitions)) (x .steps) = rw e (trace-known _ _ _ (a .shown) (a .path)) in
-      let long : length (x .steps) ≡ l = ap length e ∙ a .ends ∙ sym (a .second-step) in
-      shown-read l _ (x .steps) _ trace few known long (x .traced)
+  module _ (m : Machine) (few : length (m .transitions) ≤ 256) where
+    -- every shown trace fits
+    fits : {f : Fields} {trace stamps : List ℕ}
+        → TableSays m (Kept trace stamps) (λ l s. (trace ≡ over (bytes 2 l) trace₀) × (stamps ≡ over (bytes 4 s) stamps₀)) f
+        → TableSays m (Kept trace stamps) (Left trace stamps) f
+    fits (says-strict e p k) = says-strict e p k
+    fits (says-split {i = i} {way = way} e a q) =
+        let h : i < length (m .transitions) = omega (arith, a .pair .pair .ordered, a .pair .pair .inside) in
+        says-split e a (known-fits _ few (all-append (trace-known _ _ _ way (a .path)) (all-cons h all-nil)), q)
+    fits (says-turning {shown = shown} e a q) = says-turning e a (known-fits _ few (trace-known _ _ _ shown (a .path)), q)
 
-  turn-bytes : {k l : ℕ} {trace stamps : List ℕ} → ShownBytes (AnswersTurning m [] [] k l) trace₀ stamps₀ trace stamps
-      → ByTrace (take l (wholes 2 trace)) k l
-  turn-bytes x = rw (turn-read x) (turn-by (x .shown))
+  -- equal fields over equal memory, as two refusals leave them
+  refused-agree : {f g : Fields} {trace stamps trace' stamps' : List ℕ} → f ≡ g → Kept trace stamps → Kept trace' stamps'
+      → Agree f (wholes 2 trace) g (wholes 2 trace')
+  refused-agree e k l = record {
+    kind = ap (λ x. x .status) e;
+    plain = λ h. e;
+    split = λ h. (ap (λ x. x .first) e, ap (λ x. x .second) e);
+    turning = λ h. rw (e, k .0, l .0) refl;
+  }
 
-  -- two turning answers name one transition at K
-  turn-first : {k l k' l' : ℕ} {trace stamps trace' stamps' : List ℕ} → ShownBytes (AnswersTurning m [] [] k l) trace₀ stamps₀ trace stamps
-      → ShownBytes (AnswersTurning m [] [] k' l') trace₀ stamps₀ trace' stamps' → atStep (take l (wholes 2 trace)) k ≡ atStep (take l' (wholes 2 trace')) k'
-  turn-first x y = rw (turn-read x, turn-read y) (turn-step (x .shown) ∙ turn-only (x .shown) (y .shown) ∙ sym (turn-step (y .shown)))
+  same-kept : {trace stamps trace' stamps' : List ℕ} → Kept trace stamps → Kept trace' stamps' → (trace ≡ trace') × (stamps ≡ stamps')
+  same-kept k l = (k .0 ∙ sym (l .0), k .1 ∙ sym (l .1))
 
-  -- equal numbers stand in equal bytes
-  shown-same : {P Q : List ℕ → List ℕ → Type 0} {trace stamps trace' stamps' : List ℕ} (a : ShownBytes P trace₀ stamps₀ trace stamps)
-      (b : ShownBytes Q trace₀ stamps₀ trace' stamps') → a .steps ≡ b .steps → a .marks ≡ b .marks → (trace ≡ trace') × (stamps ≡ stamps')
-  shown-same a b e f = (a .traced ∙ rw e (sym (b .traced)), a .stamped ∙ rw f (sym (b .stamped)))
+  -- the numbers in the trace memory say which trace is shown
+  module _ (file : List ℕ) (read : Bytes file) where
+    abbrev Out : Fields → List ℕ → List ℕ → Type 0
+    Out f trace stamps = JudgeTableBytesOutcome file trace₀ stamps₀ f trace stamps
 
-  machine-agree : (r s : OnTable) (trace stamps trace' stamps' : List ℕ) → TableOnMachine m trace₀ stamps₀ r trace stamps
-      → TableOnMachine m trace₀ stamps₀ s trace' stamps' → Agree r (wholes 2 trace) (wholes 4 stamps) s (wholes 2 trace') (wholes 4 stamps')
-  machine-agree Strict Strict trace stamps trace' stamps' x y = rw (x .2, x .3, y .2, y .3) agree-strict
-  machine-agree Strict (Split i j n) trace stamps trace' stamps' x y = absurd (not-strict-and-splits m (x .1) (y .1 .shown .splits))
-  machine-agree Strict (Turning k l) trace stamps trace' stamps' x y = absurd (not-strict-and-turns m (x .1) (y .1 .shown .only))
-  machine-agree Strict (Refused r) trace stamps trace' stamps' x y = absurd (passes-fails tests r (x .0) (y .0))
-  machine-agree (Split i j n) Strict trace stamps trace' stamps' x y = absurd (not-strict-and-splits m (y .1) (x .1 .shown .splits))
-  machine-agree (Split i j n) (Split i' j' n') trace stamps trace' stamps' x y =
-      let e = pair-only (x .1 .shown .pair) (y .1 .shown .pair) in
-      rw (e .0, e .1) agree-split
-  machine-agree (Split i j n) (Turning k l) trace stamps trace' stamps' x y = absurd (not-splits-and-turns m (x .1 .shown .splits) (y .1 .shown .only))
-  machine-agree (Split i j n) (Refused r) trace stamps trace' stamps' x y = absurd (passes-fails tests r (x .0) (y .0))
-  machine-agree (Turning k l) Strict trace stamps trace' stamps' x y = absurd (not-strict-and-turns m (y .1) (x .1 .shown .only))
-  machine-agree (Turning k l) (Split i j n) trace stamps trace' stamps' x y = absurd (not-splits-and-turns m (y .1 .shown .splits) (x .1 .shown .only))
-  machine-agree (Turning k l) (Turning k' l') trace stamps trace' stamps' x y =
-      agree-turning (turn-first (x .1) (y .1))
-  machine-agree (Turning k l) (Refused r) trace stamps trace' stamps' x y = absurd (passes-fails tests r (x .0) (y .0))
-  machine-agree (Refused r) Strict trace stamps trace' stamps' x y = absurd (passes-fails tests r (y .0) (x .0))
-  machine-agree (Refused r) (Split i j n) trace stamps trace' stamps' x y = absurd (passes-fails tests r (y .0) (x .0))
-  machine-agree (Refused r) (Turning k l) trace stamps trace' stamps' x y = absurd (passes-fails tests r (y .0) (x .0))
-  machine-agree (Refused r) (Refused s) trace stamps trace' stamps' x y =
-      rw (fails-only tests r s (x .0) (y .0), x .1, x .2, y .1, y .2) agree-refused
+    -- K is the first place of its transition in the shown trace, and M the trace's length
+    pub table-bytes-by-trace : (f : Fields) (trace stamps : List ℕ) → Out f trace stamps → f .status ≡ 257
+        → ByTrace (shownIn f (wholes 2 trace)) (f .first) (f .second)
+    table-bytes-by-trace f trace stamps x h =
+        of-file (readFile file) _ _ (λ n p e k. absurd (omega (arith, places file n p e .last, ap (λ x. x .status) (k .0))))
+        (λ m e k. says-by (reads trace stamps) h (fits m (sound file m read e .0 .few) (answered-done (omega arith) (λ a b. omega arith) k .1))) x
 
-  machine-only : {r s : OnTable} {u v u' v' trace stamps trace' stamps' : List ℕ} → Agree r u v s u' v' → TableOnMachine m trace₀ stamps₀ r trace stamps
-      → TableOnMachine m trace₀ stamps₀ s trace' stamps' → shownTrace r (wholes 2 trace) ≡ shownTrace s (wholes 2 trace')
-      → (r ≡ s) × (trace ≡ trace') × (stamps ≡ stamps')
-  machine-only agree-refused x y e = (refl, x .1 ∙ sym (y .1), x .2 ∙ sym (y .2))
-  machine-only agree-strict x y e = (refl, x .2 ∙ sym (y .2), x .3 ∙ sym (y .3))
-  machine-only agree-split x y e =
-      let q = split-same (x .1 .shown) (y .1 .shown) (sym (split-read (x .1)) ∙ e ∙ split-read (y .1)) in
-      let b = shown-same (x .1) (y .1) (q .1) (q .2) in
-      (cc, b .0, b .1)
-  machine-only {trace = trace} (agree-turning {k = k} {m = l} {k' = k'} {m' = l'} h) x y e =
-      let g : ByTrace (take l (wholes 2 trace)) k' l' = rw e (turn-bytes (y .1)) in
-      let p : (k ≡ k') × (l ≡ l') = by-trace-only (turn-bytes (x .1)) g (turn-first (x .1) (y .1) ∙ rw e) in
-      let q = turn-same (x .1 .shown) (y .1 .shown) p (sym (turn-read (x .1)) ∙ e ∙ turn-read (y .1)) in
-      let b = shown-same (x .1) (y .1) (q .0) (q .1) in
-      (cc, b .0, b .1)
+    -- strict and a refusal show no trace
+    none-shown : (f : Fields) (trace stamps : List ℕ) → Out f trace stamps → f .status < 256 → f .steps ≡ 0
+    none-shown f trace stamps x h = of-file (readFile file) _ _ (λ n p e k. ap (λ x. x .steps) (k .0)) (λ m e. by m) x
+      where
+        by : (m : Machine) → TableOnMachine m trace₀ stamps₀ f trace stamps → f .steps ≡ 0
+        by m (refuses e b k) = ap (λ x. x .steps) e
+        by m (answers p (says-strict e s k)) = ap (λ x. x .steps) e
+        by m (answers p (says-split e a q)) = absurd (omega (arith, ap (λ x. x .status) e))
+        by m (answers p (says-turning e a q)) = absurd (omega (arith, ap (λ x. x .status) e))
 
--- two facts of one file of bytes: by its refusal or by its machine, which has few transitions
-on-read : (file : List ℕ) → Bytes file → (P P' : Refusal → Type 0) (Q Q' : Machine → Type 0) {C : Type 0} → ((r : Refusal) → P r → P' r → C)
-    → ((m : Machine) → length (m .transitions) ≤ 256 → Q m → Q' m → C) → onFile (readFile file) P Q → onFile (readFile file) P' Q' → C
-on-read file b P P' Q Q' {C} f g = by (readFile file) refl
-  where
-    by : (s : Scan) → readFile file ≡ s → onFile s P Q → onFile s P' Q' → C
-    by (machine m) e p q = g m (sound file m b e .0 .few) p q
-    by (stopped r) e p q = f r p q
+    module _ (f g : Fields) (trace stamps trace' stamps' : List ℕ) (x : Out f trace stamps) (y : Out g trace' stamps') where
+      -- whatever traces they show, two outcomes agree in kind, a refusal's number and place, I and J, the transition at K
+      pub table-bytes-agree : Agree f (wholes 2 trace) g (wholes 2 trace')
+      table-bytes-agree =
+          of-file (readFile file) _ _ (λ n p e k. let l = rw e at y in refused-agree (k .0 ∙ sym (l .0)) (k .1, k .2) (l .1, l .2))
+          (λ m e k.
+          let few = sound file m read e .0 .few in
+          answered-only refused-agree (λ d e. says-agree (reads trace stamps) (reads trace' stamps') (fits m few d) (fits m few e)) k (rw e at y)) x
 
--- the numbers in the trace memory say which trace is shown
-module _ (file : List ℕ) (read : Bytes file) (trace₀ stamps₀ : List ℕ) where
-  -- whatever traces they show, two outcomes agree in kind, a refusal's number, I and J, the transition at K
-  pub table-bytes-agree : (r s : OnTable) (trace stamps trace' stamps' : List ℕ) → JudgeTableBytesOutcome file trace₀ stamps₀ r trace stamps
-      → JudgeTableBytesOutcome file trace₀ stamps₀ s trace' stamps' → Agree r (wholes 2 trace) (wholes 4 stamps) s (wholes 2 trace') (wholes 4 stamps')
-  table-bytes-agree r s trace stamps trace' stamps' =
-      on-read file read _ _ _ _ (λ x p q. rw (p .0, p .1, p .2, q .0, q .1, q .2) agree-refused)
-      (λ m few p q. machine-agree m few trace₀ stamps₀ r s trace stamps trace' stamps' p q)
+      -- two outcomes that show one trace are equal: fields, trace memory and stamp memory
+      pub fields-only : shownIn f (wholes 2 trace) ≡ shownIn g (wholes 2 trace') → (f ≡ g) × (trace ≡ trace') × (stamps ≡ stamps')
+      fields-only h = let o = both in (o .0, o .1 .0, o .1 .1)
+        where
+          both : (f ≡ g) × ((trace ≡ trace') × (stamps ≡ stamps'))
+          both =
+              of-file (readFile file) _ _ (λ n p e k. let l = rw e at y in (k .0 ∙ sym (l .0), same-kept (k .1, k .2) (l .1, l .2)))
+              (λ m e k.
+              let few = sound file m read e .0 .few in
+              answered-only (λ e k l. (e, same-kept k l))
+              (λ d e. says-only (reads trace stamps) (reads trace' stamps') same-kept
+              (λ l s a b. (a .1 .0 ∙ sym (b .1 .0), a .1 .1 ∙ sym (b .1 .1))) (fits m few d) (fits m few e) h) k (rw e at y)) x
 
-  -- K is the first place of its transition in the shown trace, and M the trace's length
-  pub turning-bytes-by-trace : (k l : ℕ) (trace stamps : List ℕ) → JudgeTableBytesOutcome file trace₀ stamps₀ (Turning k l) trace stamps
-      → ByTrace (shownTrace (Turning k l) (wholes 2 trace)) k l
-  turning-bytes-by-trace k l trace stamps o =
-      on-read file read _ _ _ _ (λ x p q. let z : _≡_ {A = ℕ} 0 1 = cc (p .0) in absurd (omega arith))
-      (λ m few p q. turn-bytes m few trace₀ stamps₀ (p .1)) o o
+      -- so are two that are strict or refused
+      pub fields-plain-only : f .status < 256 → (f ≡ g) × (trace ≡ trace') × (stamps ≡ stamps')
+      fields-plain-only h =
+          let e : f ≡ g = table-bytes-agree .plain h in
+          let n : f .steps ≡ 0 = none-shown f trace stamps x h in
+          fields-only (rw (← e, n) refl)
 
-  -- two outcomes that show one trace are equal: answer, trace memory and stamp memory
-  pub table-bytes-only : (r s : OnTable) (trace stamps trace' stamps' : List ℕ) → JudgeTableBytesOutcome file trace₀ stamps₀ r trace stamps
-      → JudgeTableBytesOutcome file trace₀ stamps₀ s trace' stamps' → shownTrace r (wholes 2 trace) ≡ shownTrace s (wholes 2 trace')
-      → (r ≡ s) × (trace ≡ trace') × (stamps ≡ stamps')
-  table-bytes-only r s trace stamps trace' stamps' a b e =
-      on-read file read _ _ _ _ (λ x p q. (p .0 ∙ sym (q .0), p .1 ∙ sym (q .1), p .2 ∙ sym (q .2)))
-      (λ m few p q. machine-only m few trace₀ stamps₀ (machine-agree m few trace₀ stamps₀ r s trace stamps trace' stamps' p q) p q e) a b
+    -- the same of the answers
+    pub table-bytes-only : (r s : OnTable) (trace stamps trace' stamps' : List ℕ) → Out (tableFields r) trace stamps → Out (tableFields s) trace' stamps'
+        → shownIn (tableFields r) (wholes 2 trace) ≡ shownIn (tableFields s) (wholes 2 trace') → (r ≡ s) × (trace ≡ trace') × (stamps ≡ stamps')
+    table-bytes-only r s trace stamps trace' stamps' x y h =
+        let o = fields-only (tableFields r) (tableFields s) trace stamps trace' stamps' x y h in
+        (answer-only r s (o .0), o .1, o .2)
+
+    pub table-bytes-plain-only : (r s : OnTable) (trace stamps trace' stamps' : List ℕ) → Out (tableFields r) trace stamps → Out (tableFields s) trace' stamps'
+        → tableFields r .status < 256 → (r ≡ s) × (trace ≡ trace') × (stamps ≡ stamps')
+    table-bytes-plain-only r s trace stamps trace' stamps' x y h =
+        let o = fields-plain-only (tableFields r) (tableFields s) trace stamps trace' stamps' x y h in
+        (answer-only r s (o .0), o .1, o .2)

@@ -1,3 +1,1 @@
-pub mod Traces
-pub mod TraceCall
 pub mod Tables

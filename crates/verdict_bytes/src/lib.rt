@@ -1,28 +1,15 @@
-// The verdicts on byte buffers: the table as a file, transition numbers of two bytes, stamps of four.
+// The verdict on a table in bytes: the table as a file, transition numbers of two bytes, stamps of four.
 use table::Checked;
 use table_verdict::OnTable;
-use verdict::OnTrace;
+ghost use Rattle.table_verdict.specs.OnTable.{tableFields};
 ghost use Rattle.verdict_bytes.specs.Tables.{JudgeTableBytesOutcome};
-ghost use Rattle.verdict_bytes.specs.Traces.{JudgeTraceBytesOutcome};
 
 mod tables;
-mod traces;
-
-// The verdict on a trace, with the table as a file.
-pub fn judge_trace_bytes(file: &[u8], trace: &[u8], stamps: &mut [u8]) -> OnTrace
-    ensures { λ r. ⌜ JudgeTraceBytesOutcome (now (file .entry)) (now (trace .entry)) (now (stamps .entry)) r (now (stamps .exit)) ⌝ }
-{
-    let a = table::read_table(file);
-    let read = a.answer;
-    if let Checked::Refused(r) = read {
-        return OnTrace::Refused(r);
-    }
-    traces::judge_on(a.table, trace, stamps)
-}
 
 // The verdict on a table file.
 pub fn judge_table_bytes(file: &[u8], trace: &mut [u8], stamps: &mut [u8]) -> OnTable
-    ensures { λ r. ⌜ JudgeTableBytesOutcome (now (file .entry)) (now (trace .entry)) (now (stamps .entry)) r (now (trace .exit)) (now (stamps .exit)) ⌝ }
+    ensures { λ r. ⌜ JudgeTableBytesOutcome (now (file .entry)) (now (trace .entry)) (now (stamps .entry)) (tableFields r)
+        (now (trace .exit)) (now (stamps .exit)) ⌝ }
 {
     let a = table::read_table(file);
     let read = a.answer;

@@ -4,9 +4,9 @@ use table::Refusal;
 use table_verdict::OnTable;
 ghost use mathlib.Core.Path.{_≡_};
 ghost use lib.ListN.{length};
-ghost use Rattle.table.specs.declared.Checked.the-variants.{Sound};
+ghost use Rattle.model.specs.Table.{Valid};
 ghost use Rattle.table.specs.Rows.{machineOf, tableIn};
-ghost use Rattle.table.specs.Check.{checkOf};
+ghost use Rattle.table_verdict.specs.OnTable.{tableFields};
 ghost use Rattle.verdict_bytes.specs.Tables.{TableOnMachine};
 
 // Tests the room, makes the call on values, and writes the used places back.
@@ -20,9 +20,10 @@ pub(crate) fn judge_on(
     steps: &mut [u16],
     marks: &mut [u32],
 ) -> OnTable
+    requires { ⌜ Valid (machineOf (tableIn states initial count (now cells))) ⌝ }
     requires { ⌜ (length (now steps) ≡ 270) × (length (now marks) ≡ 540) ⌝ }
-    requires { ⌜ checkOf (tableIn states initial count (now cells)) ≡ Sound ⌝ }
-    ensures { λ r. ⌜ TableOnMachine (machineOf (tableIn states initial count (now (cells .entry)))) (now (trace .entry)) (now (stamps .entry)) r (now (trace .exit)) (now (stamps .exit)) ⌝ }
+    ensures { λ r. ⌜ TableOnMachine (machineOf (tableIn states initial count (now (cells .entry)))) (now (trace .entry)) (now (stamps .entry))
+        (tableFields r) (now (trace .exit)) (now (stamps .exit)) ⌝ }
 {
     if trace.len() / 2 < 270 {
         return OnTable::Refused(Refusal::NoRoom);

@@ -1,6 +1,6 @@
 use borrow.Author.Needs.{needs}
 use mathlib.Core.Path.{refl}
-use Rattle.places.proofs.ReadingLaws.{refused-stopped, sound-read, sound-checks}
+use Rattle.places.proofs.ReadingLaws.{refused-stopped, sound-read, read-valid}
 use Rattle.on_bytes.proofs.replay_bytes.Statement.{statement}
 use Rattle.on_bytes.proofs.replay_bytes.Tie as tie
 
@@ -25,7 +25,7 @@ replay-on-requires c κs =
     let p = e .before .before in
     let k = p .before .before .before .before .before in
     let l = k .before .args .file .now in
-    sound-checks l (p .read-table .result) (p .read-table .ensures) (e .enum-told .given .1) (λ i. k .shared-slice-known .given i .fits)
+    read-valid l (p .read-table .result) (p .read-table .ensures) (e .enum-told .given .1) (λ i. k .shared-slice-known .given i .fits)
 
 same-length : tie.Need-same-length
 same-length c = search needs

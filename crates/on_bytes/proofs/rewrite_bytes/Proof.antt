@@ -34,8 +34,8 @@ returns-2 c =
     let k = p .before .before in
     let l = k .before .args .file .now in
     let known : Bytes l = λ i. k .shared-slice-known .given i .fits in
-    let w = rewritten l (p .read-table .result) (p .read-table .ensures) (e .enum-told .given .1) known _ _ _ (c .before .before .write-table .ensures) in
-    rw (sound-read l (p .read-table .result) (p .read-table .ensures) (e .enum-told .given .1)) w
+    let read = sound-read l (p .read-table .result) (p .read-table .ensures) (e .enum-told .given .1) in
+    rw read (rewritten l _ read known _ _ _ (c .before .before .write-table .ensures))
 
 pub rewrite-bytes-spec : {M : Type 1} → statement M
 rewrite-bytes-spec =

@@ -1,8 +1,7 @@
 use borrow.Author.Needs.{needs}
 use native.Mathlib.Omega.{arith}
-use mathlib.Core.Path.{refl}
-use mathlib.Core.Logic.{inl}
-use Rattle.replay.proofs.ReplayLaws.{passed-stamped, refuses-gap, playable, plays}
+use Rattle.table.specs.Rows.{machineOf}
+use Rattle.replay.proofs.ReplayLaws.{refuses-first, passes-first, passed-stamped, refuses-gap, playable, plays}
 use Rattle.replay.proofs.replay.Statement.{statement}
 use Rattle.replay.proofs.replay.Tie as tie
 
@@ -21,8 +20,8 @@ same-length-2 c = search needs
 returns : tie.Need-returns
 returns c =
     let a = c .before .before .before .before .before .before .before .before .before .before .args in
-    let fails = rw (c .before .r .given .1) at (c .before .before .before .tested .ensures) in
-    record { why = inl fails; order-kept = refl; due-kept = refl }
+    refuses-first (machineOf (a .t1)) (a .trace .now) (a .start) (a .stamps .now) (a .order .now) (a .due .now)
+    (c .before .r .given .1) (c .before .before .before .tested .ensures)
 
 enum-told : tie.Need-enum-told
 enum-told c = search needs
@@ -31,8 +30,9 @@ first-outside-requires : tie.Need-first-outside-requires
 first-outside-requires c κs =
     let p = c .before .before in
     let a = p .before .before .before .before .before .before .before .before .before .args in
-    let passes = rw (p .enum-told .given .1) at (p .before .before .tested .ensures) in
-    passed-stamped (a .t1) (a .trace .now) (a .stamps .now) (a .order .now) (a .due .now) passes
+    let passes = passes-first (machineOf (a .t1)) (a .trace .now) (a .start) (a .stamps .now) (a .order .now) (a .due .now)
+    (p .enum-told .given .1) (p .before .before .tested .ensures) in
+    passed-stamped (machineOf (a .t1)) (a .trace .now) (a .start) (a .stamps .now) (a .order .now) (a .due .now) passes
 
 same-length-3 : tie.Need-same-length-3
 same-length-3 c = search needs
@@ -44,15 +44,17 @@ returns-2 : tie.Need-returns-2
 returns-2 c =
     let p = c .before .before .before .before in
     let a = p .before .before .before .before .before .before .before .before .before .args in
-    let passes = rw (p .enum-told .given .1) at (p .before .before .tested .ensures) in
-    refuses-gap (a .t1) (a .trace .now) (a .stamps .now) (a .order .now) (a .due .now) passes (a .start) (c .before .first-outside .ensures) (omega arith)
+    let passes = passes-first (machineOf (a .t1)) (a .trace .now) (a .start) (a .stamps .now) (a .order .now) (a .due .now)
+    (p .enum-told .given .1) (p .before .before .tested .ensures) in
+    refuses-gap (a .t1) (a .trace .now) (a .start) (a .stamps .now) (a .order .now) (a .due .now) passes (c .before .first-outside .ensures) (omega arith)
 
 play-requires : tie.Need-play-requires
 play-requires c κs =
     let p = c .before .before .before .before .before .before .before .before in
     let a = p .before .before .before .before .before .before .before .before .before .args in
-    let passes = rw (p .enum-told .given .1) at (p .before .before .tested .ensures) in
-    playable (a .t1) (a .trace .now) (a .stamps .now) (a .order .now) (a .due .now) passes (a .start)
+    let passes = passes-first (machineOf (a .t1)) (a .trace .now) (a .start) (a .stamps .now) (a .order .now) (a .due .now)
+    (p .enum-told .given .1) (p .before .before .tested .ensures) in
+    playable (a .t1) (a .trace .now) (a .start) (a .stamps .now) (a .order .now) (a .due .now) passes
     (c .before .before .before .before .before .first-outside .ensures) (omega arith)
 
 same-length-5 : tie.Need-same-length-5
@@ -65,8 +67,9 @@ returns-3 : tie.Need-returns-3
 returns-3 c =
     let p = c .before .before .before .before .before .before .before .before .before .before .before .before .before in
     let a = p .before .before .before .before .before .before .before .before .before .args in
-    let passes = rw (p .enum-told .given .1) at (p .before .before .tested .ensures) in
-    plays (a .t1) (a .trace .now) (a .stamps .now) (a .order .now) (a .due .now) passes (a .start)
+    let passes = passes-first (machineOf (a .t1)) (a .trace .now) (a .start) (a .stamps .now) (a .order .now) (a .due .now)
+    (p .enum-told .given .1) (p .before .before .tested .ensures) in
+    plays (a .t1) (a .trace .now) (a .start) (a .stamps .now) (a .order .now) (a .due .now) passes
     (c .before .before .before .before .before .before .before .before .before .before .first-outside .ensures) (omega arith)
     (c .before .before .before .before .play .ensures)
 

@@ -1,8 +1,8 @@
 use borrow.Author.Needs.{needs}
 use native.Mathlib.Omega.{arith}
-use mathlib.Core.Path.{sym, _∙_}
 use borrow.Author.Tests.{not-true, not-false}
 use Rattle.model.proofs.AnswerLaws.{told, untold}
+use Rattle.table.proofs.TestLaws.{sound-valid}
 use Rattle.replay.proofs.ReplayLaws.{fails-table, fails-trace, fails-stamps, fails-room, passes-all}
 use Rattle.replay.proofs.tested.Statement.{statement}
 use Rattle.replay.proofs.tested.Tie as tie
@@ -17,7 +17,7 @@ returns : tie.Need-returns
 returns c =
     let a = c .before .before .before .before .before .before .before .before .before .before .args in
     fails-table (a .t1) (a .trace .now) (a .stamps .now) (a .order .now) (a .due .now)
-    (sym (c .before .before .before .check-parts .ensures) ∙ c .before .checked .given .1)
+    (c .before .checked .given .1) (c .before .before .before .check-parts .ensures)
 
 enum-told : tie.Need-enum-told
 enum-told c = search needs
@@ -29,40 +29,40 @@ returns-2 : tie.Need-returns-2
 returns-2 c =
     let p = c .before in
     let a = p .before .before .before .before .before .before .before .before .before .before .before .before .args in
-    let sound = sym (p .before .before .before .before .before .check-parts .ensures) ∙ p .before .before .before .enum-told .given .1 in
-    fails-trace (a .t1) (a .trace .now) (a .stamps .now) (a .order .now) (a .due .now) sound (untold (p .is-trace .result) (p .is-trace .ensures) (not-true _ (c .if1 .taken)))
+    let valid = sound-valid _ (p .before .before .before .enum-told .given .1) (p .before .before .before .before .before .check-parts .ensures) in
+    fails-trace (a .t1) (a .trace .now) (a .stamps .now) (a .order .now) (a .due .now) valid (untold (p .is-trace .result) (p .is-trace .ensures) (not-true _ (c .if1 .taken)))
 
 returns-3 : tie.Need-returns-3
 returns-3 c =
     let p = c .before .before in
     let a = p .before .before .before .before .before .before .before .before .before .before .before .before .args in
-    let sound = sym (p .before .before .before .before .before .check-parts .ensures) ∙ p .before .before .before .enum-told .given .1 in
+    let valid = sound-valid _ (p .before .before .before .enum-told .given .1) (p .before .before .before .before .before .check-parts .ensures) in
     let traced = told (p .is-trace .result) (p .is-trace .ensures) (not-false _ (c .before .if1 .left)) in
-    fails-stamps (a .t1) (a .trace .now) (a .stamps .now) (a .order .now) (a .due .now) sound traced (λ e. omega arith)
+    fails-stamps (a .t1) (a .trace .now) (a .stamps .now) (a .order .now) (a .due .now) valid traced (λ e. omega arith)
 
 returns-4 : tie.Need-returns-4
 returns-4 c =
     let p = c .before .before .before in
     let a = p .before .before .before .before .before .before .before .before .before .before .before .before .args in
-    let sound = sym (p .before .before .before .before .before .check-parts .ensures) ∙ p .before .before .before .enum-told .given .1 in
+    let valid = sound-valid _ (p .before .before .before .enum-told .given .1) (p .before .before .before .before .before .check-parts .ensures) in
     let traced = told (p .is-trace .result) (p .is-trace .ensures) (not-false _ (c .before .before .if1 .left)) in
-    fails-room (a .t1) (a .trace .now) (a .stamps .now) (a .order .now) (a .due .now) sound traced (omega arith) (λ h. omega arith)
+    fails-room (a .t1) (a .trace .now) (a .stamps .now) (a .order .now) (a .due .now) valid traced (omega arith) (λ h. omega arith)
 
 returns-5 : tie.Need-returns-5
 returns-5 c =
     let p = c .before .before .before .before in
     let a = p .before .before .before .before .before .before .before .before .before .before .before .before .args in
-    let sound = sym (p .before .before .before .before .before .check-parts .ensures) ∙ p .before .before .before .enum-told .given .1 in
+    let valid = sound-valid _ (p .before .before .before .enum-told .given .1) (p .before .before .before .before .before .check-parts .ensures) in
     let traced = told (p .is-trace .result) (p .is-trace .ensures) (not-false _ (c .before .before .before .if1 .left)) in
-    fails-room (a .t1) (a .trace .now) (a .stamps .now) (a .order .now) (a .due .now) sound traced (omega arith) (λ h. omega arith)
+    fails-room (a .t1) (a .trace .now) (a .stamps .now) (a .order .now) (a .due .now) valid traced (omega arith) (λ h. omega arith)
 
 returns-6 : tie.Need-returns-6
 returns-6 c =
     let p = c .before .before .before .before in
     let a = p .before .before .before .before .before .before .before .before .before .before .before .before .args in
-    let sound = sym (p .before .before .before .before .before .check-parts .ensures) ∙ p .before .before .before .enum-told .given .1 in
+    let valid = sound-valid _ (p .before .before .before .enum-told .given .1) (p .before .before .before .before .before .check-parts .ensures) in
     let traced = told (p .is-trace .result) (p .is-trace .ensures) (not-false _ (c .before .before .before .if1 .left)) in
-    passes-all (a .t1) (a .trace .now) (a .stamps .now) (a .order .now) (a .due .now) sound traced (omega arith) (omega arith) (omega arith)
+    passes-all (a .t1) (a .trace .now) (a .stamps .now) (a .order .now) (a .due .now) valid traced (omega arith) (omega arith) (omega arith)
 
 pub tested-spec : {M : Type 1} → statement M
 tested-spec =

@@ -1,14 +1,9 @@
+-- What is not named follows from the arithmetic around it.
 use borrow.Author.Needs.{needs}
 use mathlib.Core.Path.{refl}
-use Rattle.places.proofs.ReadingLaws.{refused-stopped, sound-read, sound-checks}
+use Rattle.places.proofs.ReadingLaws.{refused-stopped, sound-read, read-valid}
 use Rattle.verdict_bytes.proofs.judge_table_bytes.Statement.{statement}
 use Rattle.verdict_bytes.proofs.judge_table_bytes.Tie as tie
-
-read-table-requires : tie.Need-read-table-requires
-read-table-requires c κs = search needs
-
-enum-known-read : tie.Need-enum-known-read
-enum-known-read c = search needs
 
 returns : tie.Need-returns
 returns c =
@@ -16,47 +11,33 @@ returns c =
     let l = p .before .before .before .before .args .file .now in
     rw (refused-stopped l (p .read-table .result) (p .read-table .ensures) _ (c .before .read .given .1)) (refl, refl, refl)
 
-enum-told : tie.Need-enum-told
-enum-told c = search needs
-
-slice-aggregate-judge-on : tie.Need-slice-aggregate-judge-on
-slice-aggregate-judge-on c = search needs
-
-slice-aggregate-judge-on-2 : tie.Need-slice-aggregate-judge-on-2
-slice-aggregate-judge-on-2 c = search needs
-
 judge-on-requires : tie.Need-judge-on-requires
 judge-on-requires c κs =
     let e = c .before .before .before .before .before .before in
     let p = e .before .before in
     let k = p .before .before .before in
     let l = k .before .args .file .now in
-    ((refl, refl), sound-checks l (p .read-table .result) (p .read-table .ensures) (e .enum-told .given .1) (λ i. k .shared-slice-known .given i .fits))
-
-same-length : tie.Need-same-length
-same-length c = search needs
-
-same-length-2 : tie.Need-same-length-2
-same-length-2 c = search needs
+    (read-valid l (p .read-table .result) (p .read-table .ensures) (e .enum-told .given .1) (λ i. k .shared-slice-known .given i .fits), search needs)
 
 returns-2 : tie.Need-returns-2
 returns-2 c =
-    let e = c .before .before .before .before .before .before .before .before .before .before .before .before .before in
+    let j = c .before .before .before .before .before .before in
+    let e = j .before .before .before .before .before .before .before in
     let p = e .before .before in
     let l = p .before .before .before .before .args .file .now in
-    rw (sound-read l (p .read-table .result) (p .read-table .ensures) (e .enum-told .given .1)) (c .before .before .before .before .before .before .judge-on .ensures)
+    rw (sound-read l (p .read-table .result) (p .read-table .ensures) (e .enum-told .given .1)) (j .judge-on .ensures)
 
 pub judge-table-bytes-spec : {M : Type 1} → statement M
 judge-table-bytes-spec =
     tie.close
     (tie.spec
-    read-table-requires
-    enum-known-read
+    (λ c. search needs)
+    (λ c. search needs)
     returns
-    enum-told
-    slice-aggregate-judge-on
-    slice-aggregate-judge-on-2
+    (λ c. search needs)
+    (λ c. search needs)
+    (λ c. search needs)
     judge-on-requires
-    same-length
-    same-length-2
+    (λ c. search needs)
+    (λ c. search needs)
     returns-2)

@@ -42,7 +42,7 @@ returns c =
     let a = s .args in
     called-refused (a .t) (a .trace .now) (a .start) (a .stamps .now) (a .order .now) (a .due .now) (a .ranked .now) (a .times .now)
     _ _ (p .before .before .before .before .lesser .ensures) (p .before .before .before .lesser2 .ensures) (s .pre .0) (s .pre .1)
-    _ (rw (c .before .r .given .1) at (p .replay .ensures))
+    _ _ (p .replay .ensures) (c .before .r .given .1)
 
 enum-told : tie.Need-enum-told
 enum-told c = search needs
@@ -73,7 +73,7 @@ returns-2 c =
     let a = s .args in
     called-played (a .t) (a .trace .now) (a .start) (a .stamps .now) (a .order .now) (a .due .now) (a .ranked .now) (a .times .now)
     _ _ (p .before .before .before .before .lesser .ensures) (p .before .before .before .lesser2 .ensures) (s .pre .0) (s .pre .1)
-    _ _ _ _ _ _ (rw (e .enum-told .given .1) at (p .replay .ensures))
+    _ _ (p .replay .ensures) (e .enum-told .given .1) _ _ _ _
     (c .before .before .before .before .before .before .before .put-back-twos .ensures) (c .before .before .put-back-fours .ensures)
 
 pub call-spec : {M : Type 1} → statement M

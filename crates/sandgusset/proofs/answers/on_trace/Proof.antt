@@ -1,24 +1,7 @@
+-- What is not named follows from the arithmetic around it.
 use borrow.Author.Needs.{needs}
 use Rattle.sandgusset.proofs.answers.on_trace.Statement.{statement}
 use Rattle.sandgusset.proofs.answers.on_trace.Tie as tie
-
-enum-told : tie.Need-enum-told
-enum-told c = search needs
-
-pack-requires : tie.Need-pack-requires
-pack-requires c κs = search needs
-
-enum-known-a : tie.Need-enum-known-a
-enum-known-a c = search needs
-
-pack-requires-2 : tie.Need-pack-requires-2
-pack-requires-2 c κs = search needs
-
-enum-known-a-2 : tie.Need-enum-known-a-2
-enum-known-a-2 c = search needs
-
-refused-requires : tie.Need-refused-requires
-refused-requires c κs = search needs
 
 returns : tie.Need-returns
 returns c = rw (c .before .enum-told .given .1) (c .pack .ensures)
@@ -33,12 +16,12 @@ pub on-trace-spec : {M : Type 1} → statement M
 on-trace-spec =
     tie.close
     (tie.spec
-    enum-told
-    pack-requires
-    enum-known-a
-    pack-requires-2
-    enum-known-a-2
-    refused-requires
+    (λ c. search needs)
+    (λ c. search needs)
+    (λ c. search needs)
+    (λ c. search needs)
+    (λ c. search needs)
+    (λ c. search needs)
     returns
     returns-2
     returns-3)

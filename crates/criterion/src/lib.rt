@@ -1,0 +1,51 @@
+// The criterion of a pair, on rows: every search goes by these.
+use table::Row;
+ghost use mathlib.Core.Path.{_≡_};
+ghost use Rattle.model.specs.Answers.{Tells};
+ghost use Rattle.model.specs.Criterion.{Above, Below, Crosses, slack};
+ghost use Rattle.table.specs.Rows.{said};
+
+// U < D: whether m can respond before k, for the sum u of lower bounds after k up to m.
+pub fn above(k: Row, m: Row, u: u32) -> bool
+    ensures { λ b. ⌜ Tells b (Above (said k) (said m) u) ⌝ }
+{
+    if (k.d as u64) <= (u as u64) + (m.d as u64) {
+        return false;
+    }
+    true
+}
+
+// D ≤ V: whether k can respond before m, for the sum of late gaps after k up to m, in 1/256 tick.
+pub fn below(k: Row, m: Row, late: u32) -> bool
+    ensures { λ b. ⌜ Tells b (Below (said k) (said m) late) ⌝ }
+{
+    if (late as u64) + (m.d as u64) * 256 < (k.d as u64) * 256 {
+        return false;
+    }
+    true
+}
+
+// U < D ≤ V: whether the pair turns.
+pub fn crosses(k: Row, m: Row, u: u32, late: u32) -> bool
+    ensures { λ b. ⌜ Tells b (Crosses (said k) (said m) u late) ⌝ }
+{
+    if !above(k, m, u) {
+        return false;
+    }
+    if !below(k, m, late) {
+        return false;
+    }
+    true
+}
+
+// The greatest sum of lower bounds between k and m with which m is still above; 0 where there is none.
+pub fn most_before(k: Row, m: Row) -> usize
+    ensures { λ a. ⌜ a ≡ slack (said k) (said m) ⌝ }
+{
+    let last = m.d as usize + m.u as usize;
+    let first = k.d as usize;
+    if first <= last {
+        return 0;
+    }
+    first - last - 1
+}

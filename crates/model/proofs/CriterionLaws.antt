@@ -1,0 +1,87 @@
+-- The two halves of the criterion: what the searches cite. Nothing but this file and the theorems on pairs opens them.
+use mathlib.Core.Path.{_≡_}
+use mathlib.Core.List.{List}
+use mathlib.Core.Logic.{_⊎_, inl, inr, _↔_, by-cases}
+use Prim.Native.Nat.{ℕ, _+_, _*_, _≤_, _<_}
+use native.Mathlib.Omega.{arith}
+use native.Mathlib.Decide.{decLt}
+use lib.ListN.{length}
+use Rattle.model.specs.Lists.{between}
+use Rattle.model.specs.Table.{Transition, InRange, at}
+use Rattle.model.specs.Shown.{lateGap}
+use Rattle.model.specs.Span.{span, lateSum, sumU, sumV}
+use Rattle.model.specs.Criterion.{Above, Below, slack, Criterion}
+use Rattle.model.proofs.Lists.{total-scale}
+
+-- late gaps are whole ticks
+pub sum-late : (l : List Transition) → lateSum l ≡ span l .v * 256
+unfolding lateGap
+sum-late l = total-scale (λ t. t .v) 256 l
+
+-- in the documents' numbers, V in ticks
+pub above-is : (k m : Transition) (u : ℕ) → Above k m u ↔ (u + m .d < k .d)
+unfolding Above
+above-is k m u = (λ h. h, λ h. h)
+
+pub below-is : (k m : Transition) (v : ℕ) → Below k m (v * 256) ↔ (k .d ≤ v + m .d)
+unfolding Below
+below-is k m v = (λ h. omega arith, λ h. omega arith)
+
+-- "For steps k < m .. The pair turns exactly if U < D ≤ V."
+pub record InTicks (tr : List Transition) (k m : ℕ) : Type 0 where
+  pub ordered : k < m
+  pub inside : m < length tr
+  pub above : sumU tr k m + at tr m .d < at tr k .d
+  pub below : at tr k .d ≤ sumV tr k m + at tr m .d
+
+pub criterion-is : (tr : List Transition) (k m : ℕ) → Criterion tr k m ↔ InTicks tr k m
+criterion-is tr k m = (
+  λ c. record {
+    ordered = c .ordered;
+    inside = c .inside;
+    above = above-is (at tr k) (at tr m) (sumU tr k m) .0 (c .crosses .above);
+    below = below-is (at tr k) (at tr m) (sumV tr k m) .0 (rw (sum-late (between k m tr)) at (c .crosses .below));
+  },
+  λ c. record {
+    ordered = c .ordered;
+    inside = c .inside;
+    crosses = record {
+      above = above-is (at tr k) (at tr m) (sumU tr k m) .1 (c .above);
+      below = rw (sum-late (between k m tr)) (below-is (at tr k) (at tr m) (sumV tr k m) .1 (c .below));
+    };
+  },
+)
+
+module _ (k m : Transition) where
+  -- with less u it only gets easier, with more late time too
+  pub above-less : (u x : ℕ) → Above k m u → x ≤ u → Above k m x
+  unfolding Above
+  above-less u x h l = omega arith
+
+  pub below-more : (late more : ℕ) → Below k m late → late ≤ more → Below k m more
+  unfolding Below
+  below-more late more h l = omega arith
+
+  -- a bound on u, where m's delay is at least one number and k's at most another
+  pub above-bound : (u least top : ℕ) → Above k m u → least ≤ m .d → k .d ≤ top → u + least < top
+  unfolding Above
+  above-bound u least top h l t = omega arith
+
+  -- the greatest u before m
+  pub slack-fits : Above k m (m .u) → Above k m (slack k m + m .u)
+  unfolding Above slack
+  slack-fits h = omega arith
+
+  pub slack-most : (a : ℕ) → Above k m (a + m .u) → a ≤ slack k m
+  unfolding Above slack
+  slack-most a h = omega arith
+
+  -- and a bound on it, whether m is above or not
+  pub slack-small : {a b : ℕ} → InRange a k → InRange b m → slack k m ≤ 237
+  unfolding slack
+  slack-small first last = omega (arith, first .late, last .soon, last .low)
+
+-- a step t between two others: if m is above k, then t is above k or m above t
+pub above-chain : (k t m : Transition) (u : ℕ) → Above k m (t .u + u) → Above k t (t .u) ⊎ Above t m u
+unfolding Above
+above-chain k t m u h = by-cases (decLt (t .u + t .d) (k .d)) inl (λ n. inr (omega arith))

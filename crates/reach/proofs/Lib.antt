@@ -1,0 +1,3 @@
+pub mod ReachLaws
+pub mod RoundLaws
+pub mod OnlyLaws

@@ -1,0 +1,73 @@
+-- The loop keeps that no number passed begins a pair.
+use borrow.Author.Needs.{needs}
+use native.Mathlib.Omega.{arith}
+use mathlib.Core.Path.{_≡_}
+use Prim.Native.Nat.{_≤_, _-_}
+use lib.ListN.{length}
+use Rattle.table.specs.Rows.{rows}
+use Rattle.table.proofs.RowLaws.{length-rows}
+use Rattle.split_pair.proofs.SplitLaws.{Clear, clear-more, least-here, none-clear}
+use Rattle.split_pair.proofs.first_split.Statement.{statement}
+use Rattle.split_pair.proofs.first_split.Tie as tie
+
+abbrev Inv-loop : tie.InvT-loop
+Inv-loop cells count dist i₀ i = (i ≤ count) × Clear (rows cells count) dist i
+
+abbrev μ-loop : tie.MeasureT-loop
+μ-loop cells count dist i₀ i = count - i
+
+returns : tie.Need-returns Inv-loop μ-loop
+returns c = λ few. absurd (omega arith)
+
+loop-holds : tie.Need-loop-holds Inv-loop μ-loop
+loop-holds c = (omega arith, λ x h. absurd (omega arith))
+
+partner-requires : tie.Need-partner-requires Inv-loop μ-loop
+partner-requires c κs = search needs
+
+returns-2 : tie.Need-returns-2 Inv-loop μ-loop
+returns-2 c =
+    let a = c .before .before .before .before .before .args in
+    let n = length-rows (a .cells .now) (a .count) in
+    let l = c .before .before .before .loop in (
+      omega arith,
+      least-here (rows (a .cells .now) (a .count)) (a .dist .now) (l .i) (c .before .partner .result) (l .inv .1) (c .before .partner .ensures) (omega arith),
+    )
+
+add-i : tie.Need-add-i Inv-loop μ-loop
+add-i c = search needs
+
+loop-less : tie.Need-loop-less Inv-loop μ-loop
+loop-less c = search needs
+
+loop-again : tie.Need-loop-again Inv-loop μ-loop
+loop-again c =
+    let a = c .before .before .before .before .before .args in
+    let n = length-rows (a .cells .now) (a .count) in
+    let l = c .before .before .before .loop in (
+      omega arith,
+      clear-more (rows (a .cells .now) (a .count)) (a .dist .now) (l .i) (c .before .partner .result) (l .inv .1) (c .before .partner .ensures) (omega arith),
+    )
+
+returns-3 : tie.Need-returns-3 Inv-loop μ-loop
+returns-3 c =
+    let a = c .before .before .before .args in
+    let l = c .before .loop in
+    let n = length-rows (a .cells .now) (a .count) in
+    let e : l .i ≡ length (rows (a .cells .now) (a .count)) = omega arith in
+    λ few. none-clear (rows (a .cells .now) (a .count)) (a .dist .now) (rw e at (l .inv .1))
+
+pub first-split-spec : {M : Type 1} → statement M
+first-split-spec =
+    tie.close
+    (tie.spec
+    Inv-loop
+    μ-loop
+    returns
+    loop-holds
+    partner-requires
+    returns-2
+    add-i
+    loop-less
+    loop-again
+    returns-3)

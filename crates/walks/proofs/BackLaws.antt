@@ -1,0 +1,291 @@
+-- Laws of the walk back: every number is explained, and the walk that explains it is written.
+use mathlib.Core.Path.{_≡_, refl, sym, _∙_}
+use mathlib.Core.Logic.{⊎-elim}
+use mathlib.Core.List.{List, [], _∷_, _++_, append-assoc}
+use Prim.Native.Nat.{ℕ, zero, suc, _+_, _-_, _≤_, _<_}
+use native.Mathlib.Numerals.{add-one}
+use native.Mathlib.Omega.{arith}
+use lib.ListN.{length, getD, set, take, drop, length-append, length-take}
+use lib.Seq.{set-at, set-split, drop-cons, take-suc-set, drop-set-lt}
+use Rattle.model.specs.Lists.{All}
+use Rattle.model.specs.Table.{Transition, InRange, at, none}
+use Rattle.model.specs.Trace.{Trace, steps}
+use Rattle.model.specs.Span.{span, lateSum}
+use Rattle.model.specs.Shown.{lateGap}
+use Rattle.model.specs.Criterion.{slack, TurnsTo}
+use Rattle.model.proofs.Lists.{all-at}
+use Rattle.model.proofs.CriterionLaws.{above-less, above-bound, below-more, slack-fits, slack-small}
+use Rattle.walks.specs.Walks.{Seen, Walk, ShownWalk}
+use Rattle.walks.specs.Best.{cell, Exact, Filled, Sized, Closes, ReadyFor, Deeper, Explains, Explained, LeastRow, Stands, Back, EndSum, Went}
+use Rattle.walks.proofs.WalkLaws.{sum-last, trace-last, Last, walk-none, walk-wide, walk-on, walk-last, walk-zero}
+use Rattle.walks.proofs.BestLaws.{filled-less}
+use Rattle.walks.proofs.EndLaws.{turns-by, turns-closes}
+
+-- one more number behind those that stand from place p on
+store-more : (p n : ℕ) (old rest : List ℕ) (j : ℕ) → length rest ≡ n → p + n < length old
+    → set (take p old ++ (rest ++ drop (p + n) old)) (p + n) j ≡ take p old ++ ((rest ++ (j ∷ [])) ++ drop (p + (n + 1)) old)
+store-more p n old rest j l h =
+    let e : p + (n + 1) ≡ suc (p + n) = omega arith in
+    let k : length (take p old ++ rest) ≡ p + n = simp (length-append, length-take) (omega arith) in
+    let s = set-at (take p old ++ rest) (getD old (p + n) 0) (drop (suc (p + n)) old) j (p + n) k in
+    rw (e, drop-cons old (p + n) 0 h) (simp append-assoc (simp append-assoc at s))
+
+-- the tests of a last step, with the transition that the code has read
+module _ {ts : List Transition} {best : List ℕ} {e a j : ℕ} {t : Transition} (z : Seen ts j t) where
+  left-is : (p : Explains ts best e a j) → p .left ≡ a - t .u
+  left-is p = rw (← z .here) (omega (arith, p .whole))
+
+  pub not-here : (t .to ≡ e → ⊥) → Explains ts best e a j → ⊥
+  not-here = rw (← z .here) (λ h p. h (p .to))
+
+  pub not-low : a < t .u → Explains ts best e a j → ⊥
+  not-low = rw (← z .here) (λ h p. omega (arith, p .whole))
+
+  pub not-some : cell best (a - t .u) (t .from) ≡ 0 → Explains ts best e a j → ⊥
+  not-some h p = let q = rw (left-is p, z .here) at (p .some) in omega arith
+
+  pub not-sum : (cell best (a - t .u) (t .from) + lateGap t ≡ cell best a e → ⊥) → Explains ts best e a j → ⊥
+  not-sum h p = h (rw (left-is p, z .here) at (p .sum))
+
+  pub is-sum : t .to ≡ e → t .u ≤ a → 1 ≤ cell best (a - t .u) (t .from) → cell best (a - t .u) (t .from) + lateGap t ≡ cell best a e → Explains ts best e a j
+  is-sum = rw (← z .here) (λ h l s q. record { to = h; left = a - at ts j .u; whole = omega arith; some = s; sum = q })
+
+-- walks of the table ts from s
+module _ {ts : List Transition} {s : ℕ} {best : List ℕ} where
+  -- rows grow
+  cell-grows : (a d e : ℕ) → Exact ts s best a → Exact ts s best d → a ≤ d → e < 32 → cell best a e ≤ cell best d e
+  cell-grows a d e r q h l = grows (cell best a e) refl
+    where
+      grows : (x : ℕ) → cell best a e ≡ x → x ≤ cell best d e
+      grows zero z = omega arith
+      grows (suc b) z = q .most e b l (walk-wide h (r .real e b l z))
+
+  -- a step from a row's number
+  cell-goes : (j b x : ℕ) → j < length ts → All (InRange 32) ts → Exact ts s best b → Exact ts s best (b + at ts j .u) → cell best b (at ts j .from) ≡ suc x
+      → suc x + lateGap (at ts j) ≤ cell best (b + at ts j .u) (at ts j .to)
+  cell-goes j b x h fine r q e =
+      let f = all-at none fine j h in
+      let k : b + at ts j .u - at ts j .u ≡ b = omega arith in
+      let w : Walk ts s (at ts j .to) (b + at ts j .u) (x + lateGap (at ts j)) = walk-on j h (omega arith) (rw k (r .real (at ts j .from) x (f .leaves) e)) in
+      omega (arith, q .most (at ts j .to) (x + lateGap (at ts j)) (f .arrives) w)
+
+  module _ {e a : ℕ} (p : Stands ts s best e a) where
+    row-of : (d : ℕ) → d ≤ a → Exact ts s best d
+    row-of d h = p .filled .row d (omega arith)
+
+    stands-walk : (b : ℕ) → cell best a e ≡ suc b → Walk ts s e a b
+    stands-walk b q = row-of a (omega arith) .real e b (p .state) q
+
+    -- the number before the last step
+    last-sum : (b : ℕ) → cell best a e ≡ suc b → (w : Last ts s e a b) → Explains ts best e a (w .j)
+    last-sum b q w =
+        let j = w .j in
+        let f = all-at none (p .sized .fine) j (w .known) in
+        let r = row-of (a - at ts j .u) (omega arith) in
+        let m = r .most (at ts j .from) (w .late) (f .leaves) (w .before) in
+        let x : ℕ = cell best (a - at ts j .u) (at ts j .from) - 1 in
+        let y : cell best (a - at ts j .u) (at ts j .from) ≡ suc x = omega arith in
+        let n : a - at ts j .u + at ts j .u ≡ a = omega (arith, w .low) in
+        let g = rw (n, w .to) at (cell-goes j (a - at ts j .u) x (w .known) (p .sized .fine) r (rw n (row-of a (omega arith))) y) in
+        record { to = w .to; left = a - at ts j .u; whole = sym n; some = omega arith; sum = omega (arith, w .sum) }
+
+    -- some transition explains the number of a row that is not the first
+    pub explained : (a ≡ 0 → ⊥) → Explained ts best e a
+    explained h =
+        let b : ℕ = cell best a e - 1 in
+        let q : cell best a e ≡ suc b = omega (arith, p .some) in
+        ⊎-elim
+        (λ z.
+        let m = row-of (a - 1) (omega arith) .most e 0 (p .state) (walk-none (z .0)) in
+        let g = cell-grows (a - 1) a e (row-of (a - 1) (omega arith)) (row-of a (omega arith)) (omega arith) (p .state) in
+        absurd (p .least (a - 1) (omega arith) (omega (arith, z .1))))
+        (λ w. record { j = w .j; known = w .known; last = last-sum b q w })
+        (walk-last (stands-walk b q))
+
+    -- row 0 is the start
+    stands-start : a ≡ 0 → (s ≡ e) × (cell best a e ≡ 1)
+    stands-start z =
+        let b : ℕ = cell best a e - 1 in
+        let q : cell best a e ≡ suc b = omega (arith, p .some) in
+        let w = walk-zero (p .sized .fine) z (stands-walk b q) in
+        (w .0, omega (arith, w .1))
+
+    -- one step back
+    module _ (j : ℕ) (h : j < length ts) (x : Explains ts best e a j) where
+      stands-least : (b : ℕ) → b < x .left → cell best b (at ts j .from) ≡ cell best (x .left) (at ts j .from) → ⊥
+      stands-least b l q =
+          let c = b + at ts j .u in
+          let y : ℕ = cell best b (at ts j .from) - 1 in
+          let n : cell best b (at ts j .from) ≡ suc y = omega (arith, x .some) in
+          let d : c < a = omega (arith, x .whole) in
+          let g = rw (x .to) at (cell-goes j b y h (p .sized .fine) (row-of b (omega arith)) (row-of c (omega arith)) n) in
+          let m = cell-grows c a e (row-of c (omega arith)) (row-of a (omega arith)) (omega arith) (p .state) in
+          p .least c d (omega (arith, x .sum))
+
+      stands-on : Stands ts s best (at ts j .from) (x .left)
+      stands-on =
+          let f = all-at none (p .sized .fine) j h in
+          record {
+            sized = p .sized;
+            filled = filled-less (omega (arith, x .whole)) (p .filled);
+            state = f .leaves;
+            high = omega (arith, p .high, x .whole);
+            some = x .some;
+            least = stands-least;
+          }
+
+  -- at the last step j of a walk, with the row a of the walk before it
+  module _ {j sum a : ℕ} (whole : sum ≡ a + at ts j .u) (p : Stands ts s best (at ts j .from) a) where
+    went-first : (d : ℕ) (old : List ℕ) → d < length old → a ≡ 0 → 1 ≤ at ts j .u → Went ts s best j sum d old (set old d j) 1
+    unfolding steps
+    went-first d old h z f =
+        let w = stands-start p z in
+        record {
+          rest = [];
+          path = w .0;
+          whole = omega arith;
+          late = rw z at (w .1);
+          number = refl;
+          short = omega arith;
+          traced = rw (add-one d) (set-split old d j h);
+        }
+
+    went-on : {i : ℕ} → i < length ts → 1 ≤ at ts j .u → Explains ts best (at ts j .from) a i → (d : ℕ) (old mid : List ℕ) (n : ℕ) → d + sum ≤ length old
+        → Went ts s best i a d old mid n → Went ts s best j sum d old (set mid (d + n) j) (n + 1)
+    went-on {i} k f x d old mid n h w =
+        let l : List ℕ = w .rest ++ (i ∷ []) in
+        let u = sum-last ts (λ t. t .u) (w .rest) i in
+        let q : span (steps ts l) .u ≡ a = omega (arith, w .whole) in
+        let r : x .left ≡ span (steps ts (w .rest)) .u = omega (arith, x .whole, w .whole) in
+        let y = rw r at (x .sum) in
+        let c : length l ≡ n = simp length-append (omega (arith, w .number)) in
+        record {
+          rest = l;
+          path = rw (x .to) at (trace-last ts s (w .rest) i k (w .path));
+          whole = omega arith;
+          late = rw q (omega (arith, w .late, sum-last ts lateGap (w .rest) i));
+          number = omega arith;
+          short = omega (arith, w .short);
+          traced = rw (w .traced) (store-more d n old l j c (omega (arith, w .short)));
+        }
+
+  -- the same, with the transition that the code has read
+  module _ {j sum : ℕ} (p : Back ts s best j sum) {t : Transition} (z : Seen ts j t) where
+    left-same : p .left ≡ sum - t .u
+    left-same = rw (← z .here) (omega (arith, p .whole))
+
+    stands-here : Stands ts s best (at ts j .from) (sum - t .u)
+    stands-here = rw left-same at (p .stands)
+
+    whole-here : sum ≡ sum - t .u + at ts j .u
+    whole-here = rw left-same at (p .whole)
+
+    own : 1 ≤ at ts j .u
+    own = rw (z .here) (z .fine .low)
+
+    pub step-falls : t .u ≤ sum
+    step-falls = let h : at ts j .u ≤ sum = omega (arith, p .whole) in rw (z .here) at h
+
+    pub back-stands : Stands ts s best (t .from) (sum - t .u)
+    back-stands = rw (z .here) at stands-here
+
+    pub first-went : {d : ℕ} {old : List ℕ} {y : ℕ} → y ≡ j → d + sum ≤ length old → sum - t .u ≡ 0 → Went ts s best j sum d old (set old d y) 1
+    first-went {d} {old} q h n = rw q (went-first whole-here stands-here d old (omega (arith, own, whole-here)) n own)
+
+    module _ {i : ℕ} (h : i < length ts) (x : Explains ts best (t .from) (sum - t .u) i) where
+      pub back-on : Back ts s best i (sum - t .u)
+      back-on = record { known = h; left = x .left; whole = x .whole; stands = stands-on back-stands i h x }
+
+      pub went-step : {d : ℕ} {old mid : List ℕ} {n y : ℕ} → y ≡ j → d + sum ≤ length old → Went ts s best i (sum - t .u) d old mid n
+          → Went ts s best j sum d old (set mid (d + n) y) (n + 1)
+      went-step {d} {old} {mid} {n} q l w =
+          let v : Explains ts best (at ts j .from) (sum - t .u) i = rw (z .here) x in
+          rw q (went-on whole-here stands-here h own v d old mid n l w)
+
+-- the rows that are made for a transition
+pub show-ready : {ts : List Transition} {k n top : ℕ} {best : List ℕ} {first : Transition} → Seen ts k first → length ts ≡ n → Deeper ts k 0 n top
+    → Sized ts (first .to) best → Filled ts (first .to) best (top + 1) → ReadyFor ts k best
+show-ready {top = top} z len d s f =
+    rw (z .here) (record {
+      sized = s;
+      depth = top + 1;
+      filled = f;
+      covers = λ m h. omega (arith, d .covers m (omega arith));
+    })
+
+-- the sum from which an end is walked back, with the two transitions that the code has read
+module _ {ts : List Transition} {k m : ℕ} {best : List ℕ} (z : ReadyFor ts k best) (t : TurnsTo ts k m)
+    {first last : Transition} (df : Seen ts k first) (dl : Seen ts m last) where
+  closed : Closes (at ts k) (at ts m) (cell best (slack (at ts k) (at ts m)) (at ts m .from))
+  closed = turns-closes k z m t
+
+  module _ {a : ℕ} (l : LeastRow best (at ts m .from) (slack (at ts k) (at ts m)) a) where
+    fk : InRange 32 (at ts k)
+    fk = all-at none (z .sized .fine) k (df .known)
+
+    fm : InRange 32 (at ts m)
+    fm = all-at none (z .sized .fine) m (dl .known)
+
+    end-stands : Stands ts (at ts k .to) best (at ts m .from) a
+    end-stands =
+        record {
+          sized = z .sized;
+          filled = filled-less (omega (arith, l .within, z .covers m (dl .known))) (z .filled);
+          state = fm .leaves;
+          high = omega (arith, l .within, slack-small (at ts k) (at ts m) fk fm);
+          some = omega (arith, l .same, closed .some);
+          least = λ b x y. l .least b x (y ∙ l .same);
+        }
+
+    end-at : EndSum ts k m best (a + at ts m .u)
+    end-at =
+        let o = above-less (at ts k) (at ts m) _ (a + at ts m .u) (slack-fits (at ts k) (at ts m) (closed .crosses .above)) (omega (arith, l .within)) in
+        record {
+          back = record { known = dl .known; left = a; whole = refl; stands = end-stands };
+          few = omega (arith, above-bound (at ts k) (at ts m) (a + at ts m .u) 1 240 o (fm .soon) (fk .late));
+          late = closed .late;
+          some = l .same ∙ closed .some;
+          crosses = record { above = o; below = closed .crosses .below };
+        }
+
+  pub end-sum : {top a : ℕ} → top ≡ slack first last → LeastRow best (last .from) top a → EndSum ts k m best (a + last .u)
+  end-sum {top} {a} q r =
+      let l : LeastRow best (at ts m .from) (slack (at ts k) (at ts m)) a = rw (df .here, dl .here) (rw q at r) in
+      rw (dl .here) at (end-at l)
+
+-- the walk from that sum, with k before it
+module _ {ts : List Transition} {k m : ℕ} {best : List ℕ} {sum : ℕ} (x : EndSum ts k m best sum) where
+  abbrev sum-turns : (rest : List ℕ) → Trace ts (at ts k .to) rest (at ts m .from) → sum ≡ span (steps ts rest) .u + at ts m .u
+      → cell best (span (steps ts rest) .u) (at ts m .from) ≡ suc (lateSum (steps ts rest)) → TurnsTo ts k m
+  sum-turns rest p u b =
+      let q : x .back .left ≡ span (steps ts rest) .u = omega (arith, x .back .whole) in
+      let y = rw q at (x .some) in
+      turns-by rest (x .back .known) p (rw u at (x .crosses .above)) (below-more (at ts k) (at ts m) _ _ (x .crosses .below) (omega arith))
+
+  show-walk : (p : ℕ) (old out : List ℕ) (n : ℕ) → p + 239 ≤ length old → Went ts (at ts k .to) best m sum (p + 1) (set old p k) out n
+      → ShownWalk ts k m p old out (n + 1)
+  show-walk p old out n h w =
+      let r : p < length old = omega arith in
+      let e : p + 1 + n ≡ p + (n + 1) = omega arith in
+      let f : take (p + 1) (set old p k) ≡ take p old ++ (k ∷ []) = rw (add-one p) (take-suc-set old p k r) in
+      let g : drop (p + 1 + n) (set old p k) ≡ drop (p + (n + 1)) old = rw e (drop-set-lt (p + (n + 1)) old p k (omega arith)) in
+      let l : List ℕ = w .rest ++ (m ∷ []) in
+      let q : take (p + 1) (set old p k) ++ (l ++ drop (p + 1 + n) (set old p k)) ≡ take p old ++ ((k ∷ l) ++ drop (p + (n + 1)) old) =
+      rw (f, g) (append-assoc (take p old) (k ∷ []) (l ++ drop (p + (n + 1)) old)) in
+      record {
+        turns = sum-turns (w .rest) (w .path) (w .whole) (w .late);
+        number = omega (arith, w .number);
+        few = omega (arith, w .short, x .few);
+        traced = w .traced ∙ q;
+      }
+
+  -- with the transition and the number that the code has
+  module _ {first : Transition} (df : Seen ts k first) where
+    pub end-back : Back ts (first .to) best m sum
+    end-back = rw (df .here) at (x .back)
+
+    pub end-shown : {i p : ℕ} {old out : List ℕ} {n : ℕ} → i ≡ k → p + 239 ≤ length old → Went ts (first .to) best m sum (p + 1) (set old p i) out n
+        → ShownWalk ts k m p old out (n + 1)
+    end-shown {i} {p} {old} {out} {n} di h w =
+        let v : Went ts (at ts k .to) best m sum (p + 1) (set old p k) out n = rw (df .here, ← di) w in
+        show-walk p old out n h v

@@ -1,0 +1,231 @@
+-- Laws of the ends of a turning pair, and of the lowest transition that starts one.
+use mathlib.Core.Path.{_≡_, refl}
+use mathlib.Core.Logic.{⊎-elim}
+use mathlib.Core.List.{List, [], _∷_}
+use Prim.Native.Nat.{ℕ, _+_, _-_, _≤_, _<_}
+use native.Mathlib.Nat.{eq-or-lt-of-le}
+use native.Mathlib.Omega.{arith}
+use borrow.Author.Count.{below-more}
+use denote.Enum.Declared.{tagOf}
+use lib.ListN.{length, getD}
+use Rattle.model.specs.Lists.{All}
+use Rattle.model.specs.Table.{Transition, InRange, at, none}
+use Rattle.model.specs.Trace.{Trace, steps}
+use Rattle.model.specs.Span.{span, lateSum}
+use Rattle.model.specs.Shown.{lateGap}
+use Rattle.model.specs.Criterion.{Above, Below, Crosses, slack, TurnsTo}
+use Rattle.model.proofs.Lists.{all-at}
+use Rattle.model.proofs.Paths.{trace-split}
+use Rattle.model.proofs.CriterionLaws.{above-less, below-more as below-later, slack-fits, slack-most, slack-small}
+use Rattle.walks.specs.declared.Found.{Found}
+use Rattle.walks.specs.declared.Found.the-variants.{At, Nothing}
+use Rattle.walks.specs.Walks.{Seen, Walk, Arrives, StartsAt, Starts, Least, LeastBelow}
+use Rattle.walks.specs.Best.{cell, Filled, Sized, Closes, ReadyFor, ReadyAt, Deeper, Deep}
+use Rattle.walks.proofs.Found.{the-type}
+use Rattle.walks.proofs.WalkLaws.{sum-last, trace-last}
+use Rattle.walks.proofs.BestLaws.{cell-small}
+
+-- a walk, then m, by its sums
+abbrev pub turns-by : {ts : List Transition} {k m : ℕ} (rest : List ℕ) → m < length ts → Trace ts (at ts k .to) rest (at ts m .from)
+    → Above (at ts k) (at ts m) (span (steps ts rest) .u + at ts m .u) → Below (at ts k) (at ts m) (lateSum (steps ts rest) + lateGap (at ts m))
+    → TurnsTo ts k m
+turns-by {ts} {k} {m} rest h p above below =
+    record {
+      rest = rest;
+      end = at ts m .to;
+      walk = trace-last ts (at ts k .to) rest m h p;
+      crosses = record {
+        above = above-less (at ts k) (at ts m) _ _ above (omega (arith, sum-last ts (λ t. t .u) rest m));
+        below = below-later (at ts k) (at ts m) _ _ below (omega (arith, sum-last ts lateGap rest m));
+      };
+    }
+
+-- the end of a turning pair is a transition of the table, where a walk arrives
+module _ {ts : List Transition} {k m : ℕ} (t : TurnsTo ts k m) where
+  turns-split : (e : ℕ) × Trace ts (at ts k .to) (t .rest) e × Trace ts e (m ∷ []) (t .end)
+  turns-split = trace-split ts (at ts k .to) (t .end) (t .rest) (m ∷ []) (t .walk)
+
+  pub turns-known : m < length ts
+  turns-known = turns-split .2 .0
+
+  turns-rest : Trace ts (at ts k .to) (t .rest) (at ts m .from)
+  turns-rest = rw (turns-split .2 .1) (turns-split .1)
+
+  -- a sum that m's own u and that of the walk before it make up
+  turns-above : (x : ℕ) → x ≤ span (steps ts (t .rest)) .u + at ts m .u → Above (at ts k) (at ts m) x
+  turns-above x h = above-less (at ts k) (at ts m) _ x (t .crosses .above) (omega (arith, sum-last ts (λ t. t .u) (t .rest) m))
+
+-- the test of an end, with the late gap that the code has read
+module _ {k m : Transition} {x g : ℕ} (e : g ≡ lateGap m) where
+  pub not-closed : (Crosses k m (m .u) (x - 1 + g) → ⊥) → Closes k m x → ⊥
+  not-closed n p = let q : p .late ≡ x - 1 = omega (arith, p .some) in n (rw e (rw q at (p .crosses)))
+
+  pub is-closed : (x ≡ 0 → ⊥) → Crosses k m (m .u) (x - 1 + g) → Closes k m x
+  is-closed n p = record { late = x - 1; some = omega arith; crosses = rw e at p }
+
+-- the table of numbers and the walks say the same of an end
+module _ {ts : List Transition} (k : ℕ) {best : List ℕ} (z : ReadyFor ts k best) (m : ℕ) where
+  abbrev a : ℕ
+  a = slack (at ts k) (at ts m)
+
+  closes-turns : m < length ts → Closes (at ts k) (at ts m) (cell best a (at ts m .from)) → TurnsTo ts k m
+  closes-turns h p =
+      let f = all-at none (z .sized .fine) m h in
+      let w : Walk ts (at ts k .to) (at ts m .from) a (p .late) = z .filled .row a (z .covers m h) .real (at ts m .from) (p .late) (f .leaves) (p .some) in
+      turns-by (w .way) h (w .path)
+      (above-less (at ts k) (at ts m) _ _ (slack-fits (at ts k) (at ts m) (p .crosses .above)) (omega (arith, w .fits)))
+      (below-later (at ts k) (at ts m) _ _ (p .crosses .below) (omega (arith, w .late)))
+
+  pub turns-closes : TurnsTo ts k m → Closes (at ts k) (at ts m) (cell best a (at ts m .from))
+  turns-closes t =
+      let h = turns-known t in
+      let f = all-at none (z .sized .fine) m h in
+      let b : ℕ = lateSum (steps ts (t .rest)) in
+      let o = slack-most (at ts k) (at ts m) (span (steps ts (t .rest)) .u) (turns-above t _ (omega arith)) in
+      let w : Walk ts (at ts k .to) (at ts m .from) a b = record { way = t .rest; path = turns-rest t; fits = o; late = refl } in
+      let p = z .filled .row a (z .covers m h) .most (at ts m .from) b (f .leaves) w in
+      record {
+        late = cell best a (at ts m .from) - 1;
+        some = omega arith;
+        crosses = record {
+          above = turns-above t (at ts m .u) (omega arith);
+          below = below-later (at ts k) (at ts m) _ _ (t .crosses .below) (omega (arith, sum-last ts lateGap (t .rest) m));
+        };
+      }
+
+  -- with the transitions and the numbers that the code has read
+  module _ {first last : Transition} (df : Seen ts k first) (dl : Seen ts m last) {row x : ℕ} (dr : row ≡ slack first last)
+      (dx : x ≡ cell best row (last .from)) where
+    number-is : x ≡ cell best a (at ts m .from)
+    number-is = rw (df .here, dl .here) (rw dr at dx)
+
+    pub end-found : Closes first last x → TurnsTo ts k m
+    end-found p =
+        let q : Closes (at ts k) (at ts m) x = rw (df .here, dl .here) p in
+        closes-turns (dl .known) (rw number-is at q)
+
+    pub end-not : (Closes first last x → ⊥) → TurnsTo ts k m → ⊥
+    end-not o t =
+        let q : Closes (at ts k) (at ts m) x = rw number-is (turns-closes t) in
+        o (rw (df .here, dl .here) at q)
+
+    pub number-small : x < 4278190080
+    number-small =
+        let f = all-at none (z .sized .fine) m (dl .known) in
+        let s = cell-small best a (at ts m .from) (z .sized .fine) (z .filled .row a (z .covers m (dl .known))) (f .leaves) in
+        let l = slack-small (at ts k) (at ts m) (all-at none (z .sized .fine) k (df .known)) f in
+        omega (arith, number-is)
+
+-- the tests of an arrival, with the transition that the code has read
+module _ {ts : List Transition} {dist : List ℕ} {s k : ℕ} {t : Transition} (z : Seen ts k t) where
+  pub not-to : (t .to ≡ s → ⊥) → Arrives ts dist s k → ⊥
+  not-to = rw (← z .here) (λ h p. h (p .to))
+
+  pub not-left : getD dist (t .from) 0 ≡ 0 → Arrives ts dist s k → ⊥
+  not-left = rw (← z .here) (λ h p. omega (arith, p .leaves))
+
+  pub is-arrival : t .to ≡ s → 1 ≤ getD dist (t .from) 0 → Arrives ts dist s k
+  is-arrival = rw (← z .here) (λ h l. record { known = z .known; to = h; leaves = l })
+
+-- nothing was found
+pub least-not : (P : ℕ → Type 0) (r : Found) → Least P r → tagOf the-type r ≡ 1 → (x : ℕ) → P x → ⊥
+least-not P (At k) l e x p = absurd (omega arith)
+least-not P Nothing l e x p = l x p
+
+-- a loop that looks for the least number of which P holds
+module _ {P : ℕ → Type 0} where
+  pub least-none : {n i : ℕ} → ((x : ℕ) → P x → x < n) → n ≤ i → ((x : ℕ) → x < i → P x → ⊥) → (x : ℕ) → P x → ⊥
+  least-none k h b x p = b x (omega (arith, k x p)) p
+
+  pub below-at : {n k : ℕ} → k < n → P k → ((x : ℕ) → x < k → P x → ⊥) → LeastBelow P n k
+  below-at h p b = record { within = omega arith; found = λ _. p; before = b }
+
+  pub below-end : {n i : ℕ} → i ≡ n → ((x : ℕ) → x < i → P x → ⊥) → LeastBelow P n i
+  below-end q b = record { within = omega arith; found = λ h. absurd (omega arith); before = b }
+
+-- the rows that are asked for
+module _ {ts : List Transition} where
+  pub deeper-none : {k top : ℕ} → top ≤ 238 → Deeper ts k top 0 top
+  deeper-none h = record { most = h; more = omega arith; covers = λ m h. absurd (omega arith) }
+
+  pub deeper-more : {k top i r a x : ℕ} {first last : Transition} → Seen ts k first → Seen ts i last → a ≡ slack first last → Deeper ts k top i r
+      → r ≤ x → a ≤ x → x ≤ 238 → Deeper ts k top (i + 1) x
+  deeper-more {k} {top} {i} {r} {a} {x} df dl q d h l o =
+      record {
+        most = o;
+        more = omega (arith, d .more);
+        covers = below-more (λ m. slack (at ts k) (at ts m) ≤ x) i (λ m g. omega (arith, d .covers m g)) (rw (df .here, dl .here, ← q) l);
+      }
+
+  module _ {dist : List ℕ} {s : ℕ} where
+    pub deep-none : Deep ts dist s 0 0
+    deep-none = record { most = omega arith; covers = λ k h. absurd (omega arith) }
+
+    -- a transition that does not arrive in s asks for nothing
+    pub deep-skip : {i r x : ℕ} → x ≡ r → Deep ts dist s i r → (Arrives ts dist s i → ⊥) → Deep ts dist s (i + 1) x
+    deep-skip {i} {r} q d n =
+        rw q (record {
+          most = d .most;
+          covers = below-more (λ k. Arrives ts dist s k → (m : ℕ) → m < length ts → slack (at ts k) (at ts m) ≤ r) i (d .covers) (λ p. absurd (n p));
+        })
+
+    pub deep-more : {i n r x y : ℕ} → y ≡ x → length ts ≡ n → Deep ts dist s i r → Deeper ts i r n x → Deep ts dist s (i + 1) y
+    deep-more {i} {n} {r} {x} q len d e =
+        rw q (record {
+          most = e .most;
+          covers = below-more (λ k. Arrives ts dist s k → (m : ℕ) → m < length ts → slack (at ts k) (at ts m) ≤ x) i
+              (λ k h p m l. omega (arith, d .covers k h p m l, e .more)) (λ p m l. e .covers m (omega arith));
+        })
+
+    -- they are enough
+    pub ready-at : {low top : ℕ} {best : List ℕ} → Deep ts dist s low top → Sized ts s best → Filled ts s best (top + 1) → ReadyAt ts dist s low best
+    ready-at {top = top} d z f =
+        record { ready = λ k under p. record { sized = z; depth = top + 1; filled = f; covers = λ m h. omega (arith, d .covers k under p m h) } }
+
+pub ready-less : {ts : List Transition} {dist best : List ℕ} {s n m : ℕ} → m ≤ n → ReadyAt ts dist s n best → ReadyAt ts dist s m best
+ready-less h z = record { ready = λ k under. z .ready k (omega arith) }
+
+-- an arrival, and what the ends answered
+module _ {ts : List Transition} {dist : List ℕ} {s k : ℕ} (p : Arrives ts dist s k) where
+  pub ready-for : {best : List ℕ} → ReadyAt ts dist s (k + 1) best → ReadyFor ts k best
+  ready-for z = rw (p .to) (z .ready k (omega arith) p)
+
+  pub is-start : (r : Found) → Least (TurnsTo ts k) r → tagOf the-type r ≡ 0 → StartsAt ts dist s k
+  is-start (At m) l e = record { arrives = p; after = record { m = m; turns = l .0 } }
+  is-start Nothing l e = absurd (omega arith)
+
+-- the lowest start over the arrival states below s
+abbrev pub StartsUnder : List Transition → List ℕ → ℕ → ℕ → Type 0
+StartsUnder ts dist s k = (at ts k .to < s) × Starts ts dist k
+
+module _ {ts : List Transition} {dist : List ℕ} where
+  pub lowest-none : {n : ℕ} → LeastBelow (StartsUnder ts dist 0) n n
+  lowest-none = record { within = omega arith; found = λ h. absurd (omega arith); before = λ x h p. omega (arith, p .0) }
+
+  starts-here : {s k : ℕ} → at ts k .to ≡ s → StartsAt ts dist s k → StartsUnder ts dist (s + 1) k
+  starts-here q p = (omega arith, rw (← q) at p)
+
+  pub lowest-more : {n s low r : ℕ} → LeastBelow (StartsUnder ts dist s) n low → LeastBelow (StartsAt ts dist s) low r
+      → LeastBelow (StartsUnder ts dist (s + 1)) n r
+  lowest-more {n} {s} {low} {r} a b =
+      record {
+        within = omega (arith, a .within, b .within);
+        found = λ h. ⊎-elim
+            (λ (q : r ≡ low). let w = a .found (omega arith) in rw q (omega (arith, w .0), w .1))
+            (λ (q : r < low). let w = b .found q in starts-here (w .arrives .to) w)
+            (eq-or-lt-of-le (b .within));
+        before = λ x h p. ⊎-elim
+            (λ (q : at ts x .to ≡ s). b .before x h (rw q at (p .1)))
+            (λ (q : at ts x .to < s). a .before x (omega (arith, b .within)) (q, p .1))
+            (eq-or-lt-of-le (omega (arith, p .0)));
+      }
+
+  module _ (fine : All (InRange 32) ts) {n low : ℕ} (len : length ts ≡ n) (a : LeastBelow (StartsUnder ts dist 32) n low) where
+    under : (k : ℕ) → Starts ts dist k → StartsUnder ts dist 32 k
+    under k p = (all-at none fine k (p .arrives .known) .arrives, p)
+
+    pub lowest-at : low < n → Least (Starts ts dist) (At low)
+    lowest-at h = (a .found h .1, λ x l p. a .before x l (under x p))
+
+    pub lowest-nothing : n ≤ low → Least (Starts ts dist) Nothing
+    lowest-nothing h x p = a .before x (omega (arith, p .arrives .known)) (under x p)

@@ -1,0 +1,6 @@
+pub mod WalkLaws
+pub mod BestLaws
+pub mod EndLaws
+pub mod NeighbourLaws
+pub mod BackLaws
+pub mod OutcomeLaws

@@ -1,0 +1,79 @@
+-- What the two calls' outcomes mean to a caller, and that two of them agree.
+use mathlib.Core.Path.{_≡_, refl, ap}
+use mathlib.Core.Logic.{inl, inr, ⊎-elim, _↔_, dite}
+use mathlib.Core.List.{List}
+use Prim.Native.Nat.{ℕ, _+_, _≤_, _<_}
+use native.Mathlib.Decide.{decLt}
+use native.Mathlib.Omega.{arith}
+use lib.ListN.{length, getD}
+use Rattle.model.specs.Table.{Machine, at}
+use Rattle.model.specs.Trace.{Reached}
+use Rattle.model.specs.Criterion.{WalkTurns}
+use Rattle.table.specs.Rows.{rows}
+use Rattle.table.specs.Fit.{Sound}
+use Rattle.walks.specs.declared.Found.{Found}
+use Rattle.walks.specs.declared.Found.the-variants.{At, Nothing}
+use Rattle.walks.specs.Walks.{Starts, Least, LowestStart, ShownLeast, ShownIfTurns, CanShow, WalkOutcome, WalksAgree}
+
+-- the answer for cells within their limits, from and to the least start
+module _ (c : List ℕ) (n : ℕ) (dist : List ℕ) where
+  pub lowest-sound : Sound c n → (r : Found) → Least (Starts (rows c n) dist) r → LowestStart c n dist r
+  lowest-sound z (At k) l = ((z, l .0), λ x h p. l .1 x h (p .1))
+  lowest-sound z Nothing l = λ x p. l x (p .1)
+
+  pub lowest-within : Sound c n → (r : Found) → LowestStart c n dist r → Least (Starts (rows c n) dist) r
+  lowest-within z (At k) l = (l .0 .1, λ x h p. l .1 x h (z, p))
+  lowest-within z Nothing l = λ x p. l x (z, p)
+
+-- two least numbers are one
+least-only : (P : ℕ → Type 0) (r q : Found) → Least P r → Least P q → r ≡ q
+least-only P (At k) (At j) a b =
+    dite (decLt k j) (λ h. absurd (b .1 k h (a .0))) (λ h. dite (decLt j k) (λ g. absurd (a .1 j g (b .0))) (λ g. ap At (omega arith)))
+least-only P (At k) Nothing a b = absurd (b k (a .0))
+least-only P Nothing (At j) a b = absurd (a j (b .0))
+least-only P Nothing Nothing a b = refl
+
+-- two outcomes of `lowest` are equal
+pub lowest-only : (c : List ℕ) (n : ℕ) (dist : List ℕ) (r q : Found) → LowestStart c n dist r → LowestStart c n dist q → r ≡ q
+lowest-only c n dist = least-only (λ k. Sound c n × Starts (rows c n) dist k)
+
+-- where the marks tell which states can be reached, a start is a walk that turns
+module _ (m : Machine) (dist : List ℕ) (meant : (s : ℕ) → (1 ≤ getD dist s 0) ↔ Reached (m .transitions) (m .initial) s) where
+  pub starts-law : (k : ℕ) → Starts (m .transitions) dist k ↔ WalkTurns m k
+  starts-law k = (
+    λ p. record {
+      reached = meant (at (m .transitions) k .from) .0 (p .arrives .leaves);
+      known = p .arrives .known;
+      j = p .after .m;
+      turns = p .after .turns;
+    },
+    λ t. record {
+      arrives = record { known = t .known; to = refl; leaves = meant (at (m .transitions) k .from) .1 (t .reached) };
+      after = record { m = t .j; turns = t .turns };
+    },
+  )
+
+  pub lowest-turns : (k : ℕ) → Least (Starts (m .transitions) dist) (At k) → WalkTurns m k × ((i : ℕ) → WalkTurns m i → k ≤ i)
+  lowest-turns k l = (starts-law k .0 (l .0), λ i t. dite (decLt i k) (λ h. absurd (l .1 i h (starts-law i .1 t))) (λ n. omega arith))
+
+  pub lowest-steady : Least (Starts (m .transitions) dist) Nothing → (i : ℕ) → WalkTurns m i → ⊥
+  lowest-steady l i t = l i (starts-law i .1 t)
+
+module _ {c : List ℕ} {n k p : ℕ} {old : List ℕ} where
+  pub walk-outcome : {out : List ℕ} {x : ℕ} → Sound c n → k < n → p + 239 ≤ length old → ShownIfTurns (rows c n) k p old out x → WalkOutcome c n k p old out x
+  walk-outcome z h r =
+      ⊎-elim (λ s. inl (record { sound = z; known = h; room = r; after = record { m = s .m; turns = s .walk .turns } }, s))
+      (λ e. inr (λ q. e .0 (q .after), e .1, e .2))
+
+  -- where a walk can be shown, it is
+  pub walk-shown : {out : List ℕ} {x : ℕ} → CanShow c n k p old → WalkOutcome c n k p old out x → ShownLeast (rows c n) k p old out x
+  walk-shown q = ⊎-elim (λ s. s .1) (λ e. absurd (e .0 q))
+
+  -- two outcomes show walks with one end, or write nothing
+  pub write-walk-agree : {a b : List ℕ} {x y : ℕ} → WalkOutcome c n k p old a x → WalkOutcome c n k p old b y → WalksAgree (rows c n) k p old a x b y
+  write-walk-agree (inl s) (inl t) =
+      let e = least-only _ (At (s .1 .m)) (At (t .1 .m)) (s .1 .walk .turns, s .1 .least) (t .1 .walk .turns, t .1 .least) in
+      inl (s .1, t .1, (cc))
+  write-walk-agree (inl s) (inr f) = absurd (f .0 (s .0))
+  write-walk-agree (inr e) (inl t) = absurd (e .0 (t .0))
+  write-walk-agree (inr e) (inr f) = inr (e .1, f .1, e .2, f .2)

@@ -1,0 +1,83 @@
+use borrow.Author.Needs.{needs}
+use native.Mathlib.Omega.{arith}
+use mathlib.Core.Path.{_≡_, refl}
+use Prim.Native.Nat.{_≤_, _-_}
+use lib.ListN.{length, length-set}
+use Rattle.walks.specs.Best.{Copied}
+use Rattle.walks.proofs.BestLaws.{copied-none, copied-more, copied-at}
+use Rattle.walks.proofs.sums.copy_row.Statement.{statement}
+use Rattle.walks.proofs.sums.copy_row.Tie as tie
+
+abbrev Inv-loop : tie.InvT-loop
+Inv-loop best₀ p e₀ best e = (e ≤ 32) × (length best ≡ length best₀) × Copied best₀ best p e
+
+abbrev μ-loop : tie.MeasureT-loop
+μ-loop best₀ p e₀ best e = 32 - e
+
+loop-holds : tie.Need-loop-holds Inv-loop μ-loop
+loop-holds c = (omega arith, refl, copied-none)
+
+mul-x : tie.Need-mul-x Inv-loop μ-loop
+mul-x c = search needs
+
+add-x : tie.Need-add-x Inv-loop μ-loop
+add-x c = search needs
+
+mul-x-2 : tie.Need-mul-x-2 Inv-loop μ-loop
+mul-x-2 c = search needs
+
+slice-read-x : tie.Need-slice-read-x Inv-loop μ-loop
+slice-read-x c = search needs
+
+mul-best : tie.Need-mul-best Inv-loop μ-loop
+mul-best c = search needs
+
+add-best : tie.Need-add-best Inv-loop μ-loop
+add-best c = search needs
+
+add-best-2 : tie.Need-add-best-2 Inv-loop μ-loop
+add-best-2 c = search needs
+
+mul-best-2 : tie.Need-mul-best-2 Inv-loop μ-loop
+mul-best-2 c = search needs
+
+slice-write-best : tie.Need-slice-write-best Inv-loop μ-loop
+slice-write-best c = search needs
+
+add-e : tie.Need-add-e Inv-loop μ-loop
+add-e c = search needs
+
+loop-less : tie.Need-loop-less Inv-loop μ-loop
+loop-less c = search needs
+
+loop-again : tie.Need-loop-again Inv-loop μ-loop
+loop-again c =
+    (omega arith, simp length-set (omega arith), copied-more (omega arith) (omega arith) (c .before .before .loop .inv .2))
+
+same-length : tie.Need-same-length Inv-loop μ-loop
+same-length c = search needs
+
+returns : tie.Need-returns Inv-loop μ-loop
+returns c = copied-at (omega arith) (c .before .loop .inv .2)
+
+pub copy-row-spec : {M : Type 1} → statement M
+copy-row-spec =
+    tie.close
+    (tie.spec
+    Inv-loop
+    μ-loop
+    loop-holds
+    mul-x
+    add-x
+    mul-x-2
+    slice-read-x
+    mul-best
+    add-best
+    add-best-2
+    mul-best-2
+    slice-write-best
+    add-e
+    loop-less
+    loop-again
+    same-length
+    returns)

@@ -1,0 +1,53 @@
+// The walks of a table with their sums: which transition starts a turning pair, and the walk to its end.
+use table::Cells;
+ghost use Rattle.walks.specs.Walks.{LowestStart, WalkOutcome};
+
+mod neighbours;
+mod search;
+mod sums;
+mod walk;
+
+// A number that was looked for.
+pub enum Found {
+    At(usize),
+    Nothing,
+}
+
+// The lowest transition that leaves a marked state and starts a turning pair. Nothing where the numbers are not within their limits.
+pub fn lowest(cells: &Cells, count: usize, dist: &[u16; 32]) -> Found
+    ensures { λ r. ⌜ LowestStart (now (cells .entry)) count (now (dist .entry)) r ⌝ }
+{
+    if 256 < count {
+        return Found::Nothing;
+    }
+    // An everyday strict table needs no search.
+    if !neighbours::any_overtaken(cells, count) {
+        return Found::Nothing;
+    }
+    if !table::in_limits(cells, count) {
+        return Found::Nothing;
+    }
+    let mut best = [0u32; 7648];
+    search::lowest_start(cells, count, dist, &mut best)
+}
+
+// Transition k, the walk after it and the least end with which it turns, written from place `from` on; answers the number of steps.
+// 0, and nothing written, where k starts no turning pair, the numbers are not within their limits or fewer than 239 places are left.
+pub fn write_walk(cells: &Cells, count: usize, k: usize, trace: &mut [u16], from: usize) -> usize
+    ensures { λ n. ⌜ WalkOutcome (now (cells .entry)) count k from (now (trace .entry)) (now (trace .exit)) n ⌝ }
+{
+    if count <= k {
+        return 0;
+    }
+    if !table::in_limits(cells, count) {
+        return 0;
+    }
+    if trace.len() < 239 {
+        return 0;
+    }
+    if trace.len() - 239 < from {
+        return 0;
+    }
+    let mut best = [0u32; 7648];
+    walk::show(cells, count, k, &mut best, trace, from)
+}

@@ -1,0 +1,184 @@
+// The search for a turning pair over the table of sums.
+use crate::Found;
+use crate::sums::fill;
+use crate::sums::number;
+use crate::sums::row;
+use table::Cells;
+use table::Row;
+ghost use mathlib.Core.Path.{_≡_};
+ghost use Prim.Native.Nat.{_+_, _<_, _≤_};
+ghost use lib.ListN.{length, getD};
+ghost use Rattle.model.specs.Answers.{Tells};
+ghost use Rattle.model.specs.Criterion.{TurnsTo};
+ghost use Rattle.table.specs.Fit.{Sound};
+ghost use Rattle.table.specs.Rows.{rows, said};
+ghost use Rattle.walks.specs.Walks.{Arrives, StartsAt, Starts, Least, LeastBelow};
+ghost use Rattle.walks.specs.Best.{Closes, ReadyFor, ReadyAt, Deeper, Deep};
+
+// Whether `last` ends a pair whose first step is `first`, by the number of the walks before it: the goal of the search, here alone.
+fn closes(first: Row, last: Row, number: u32) -> bool
+    requires { ⌜ number < 4278190080 ⌝ }
+    ensures { λ r. ⌜ Tells r (Closes (said first) (said last) number) ⌝ }
+{
+    if number == 0 {
+        return false;
+    }
+    if !criterion::crosses(
+        first,
+        last,
+        last.u as u32,
+        number - 1 + words::late_gap(last),
+    ) {
+        return false;
+    }
+    true
+}
+
+// The least transition that ends a turning pair whose first step is k.
+pub(crate) fn ends(cells: &Cells, count: usize, best: &[u32], k: usize) -> Found
+    requires { ⌜ Sound (now cells) count × (k < count) × ReadyFor (rows (now cells) count) k (now best) ⌝ }
+    ensures { λ r. ⌜ Least (TurnsTo (rows (now (cells .entry)) count) k) r ⌝ }
+{
+    let first = row(cells, count, k);
+    let mut m: usize = 0;
+    while m < count {
+        let last = row(cells, count, m);
+        let x = number(
+            best,
+            criterion::most_before(first, last),
+            last.from as usize,
+        );
+        if closes(first, last, x) {
+            return Found::At(m);
+        }
+        m += 1;
+    }
+    Found::Nothing
+}
+
+// The greatest of `top` and the rows that the ends of pairs from k ask for.
+pub(crate) fn deeper(cells: &Cells, count: usize, k: usize, top: usize) -> usize
+    requires { ⌜ Sound (now cells) count × (k < count) × (top ≤ 238) ⌝ }
+    ensures { λ r. ⌜ Deeper (rows (now (cells .entry)) count) k top count r ⌝ }
+{
+    let first = row(cells, count, k);
+    let mut deep = top;
+    let mut m: usize = 0;
+    while m < count {
+        let a = criterion::most_before(first, row(cells, count, m));
+        if deep < a {
+            deep = a;
+        }
+        m += 1;
+    }
+    deep
+}
+
+// The mark of a state; past the 32nd stands none.
+fn mark(dist: &[u16; 32], s: usize) -> u16
+    ensures { λ r. ⌜ r ≡ getD (now (dist .entry)) s 0 ⌝ }
+{
+    let marks: &[u16] = dist;
+    if s < marks.len() { marks[s] } else { 0 }
+}
+
+// Whether transition k arrives in s and leaves a marked state.
+fn arrives(cells: &Cells, count: usize, dist: &[u16; 32], s: usize, k: usize) -> bool
+    requires { ⌜ Sound (now cells) count × (k < count) ⌝ }
+    ensures { λ r. ⌜ Tells r (Arrives (rows (now (cells .entry)) count) (now (dist .entry)) s k) ⌝ }
+{
+    let r = row(cells, count, k);
+    if r.to as usize != s {
+        return false;
+    }
+    if mark(dist, r.from as usize) == 0 {
+        return false;
+    }
+    true
+}
+
+// The greatest row that a transition below low that arrives in s asks for.
+fn depth(cells: &Cells, count: usize, dist: &[u16; 32], s: usize, low: usize) -> usize
+    requires { ⌜ Sound (now cells) count × (low ≤ count) ⌝ }
+    ensures { λ r. ⌜ Deep (rows (now (cells .entry)) count) (now (dist .entry)) s low r ⌝ }
+{
+    let mut top: usize = 0;
+    let mut k: usize = 0;
+    while k < low {
+        if arrives(cells, count, dist, s, k) {
+            top = deeper(cells, count, k, top);
+        }
+        k += 1;
+    }
+    top
+}
+
+// Whether transition k arrives in s and starts a turning pair.
+fn starts(cells: &Cells, count: usize, dist: &[u16; 32], best: &[u32], s: usize, k: usize) -> bool
+    requires { ⌜ Sound (now cells) count × (k < count) × ReadyAt (rows (now cells) count) (now dist) s (k + 1) (now best) ⌝ }
+    ensures { λ r. ⌜ Tells r (StartsAt (rows (now (cells .entry)) count) (now (dist .entry)) s k) ⌝ }
+{
+    if !arrives(cells, count, dist, s, k) {
+        return false;
+    }
+    match ends(cells, count, best, k) {
+        Found::At(_) => true,
+        Found::Nothing => false,
+    }
+}
+
+// The least transition below low that arrives in s and starts a turning pair, or low.
+fn first_start(
+    cells: &Cells,
+    count: usize,
+    dist: &[u16; 32],
+    best: &[u32],
+    s: usize,
+    low: usize,
+) -> usize
+    requires { ⌜ Sound (now cells) count × (low ≤ count) × ReadyAt (rows (now cells) count) (now dist) s low (now best) ⌝ }
+    ensures { λ r. ⌜ LeastBelow (StartsAt (rows (now (cells .entry)) count) (now (dist .entry)) s) low r ⌝ }
+{
+    let mut k: usize = 0;
+    while k < low {
+        if starts(cells, count, dist, best, s, k) {
+            return k;
+        }
+        k += 1;
+    }
+    k
+}
+
+// The same, with the sums from s made as far as they are looked at.
+fn lower(
+    cells: &Cells,
+    count: usize,
+    dist: &[u16; 32],
+    best: &mut [u32],
+    s: usize,
+    low: usize,
+) -> usize
+    requires { ⌜ Sound (now cells) count × (low ≤ count) × (length (now best) ≡ 7648) × (s < 32) ⌝ }
+    ensures { λ r. ⌜ LeastBelow (StartsAt (rows (now (cells .entry)) count) (now (dist .entry)) s) low r ⌝ }
+{
+    let top = depth(cells, count, dist, s, low);
+    fill(cells, count, s, best, top);
+    first_start(cells, count, dist, best, s, low)
+}
+
+// The lowest transition that leaves a marked state and starts a turning pair.
+pub(crate) fn lowest_start(cells: &Cells, count: usize, dist: &[u16; 32], best: &mut [u32]) -> Found
+    requires { ⌜ Sound (now cells) count × (length (now best) ≡ 7648) ⌝ }
+    ensures { λ r. ⌜ Least (Starts (rows (now (cells .entry)) count) (now (dist .entry))) r ⌝ }
+{
+    let mut low = count;
+    let mut s: usize = 0;
+    while s < 32 {
+        low = lower(cells, count, dist, best, s, low);
+        s += 1;
+    }
+    if low < count {
+        return Found::At(low);
+    }
+    Found::Nothing
+}

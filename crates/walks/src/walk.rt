@@ -1,0 +1,167 @@
+// The walk between the two steps of a turning pair, walked back from its end.
+use crate::Found;
+use crate::search::deeper;
+use crate::search::ends;
+use crate::sums::fill;
+use crate::sums::number;
+use crate::sums::row;
+use table::Cells;
+ghost use mathlib.Core.Path.{_≡_};
+ghost use Prim.Native.Nat.{_+_, _<_, _≤_};
+ghost use lib.ListN.{length};
+ghost use Rattle.model.specs.Answers.{Tells};
+ghost use Rattle.model.specs.Criterion.{TurnsTo};
+ghost use Rattle.table.specs.Fit.{Sound};
+ghost use Rattle.table.specs.Rows.{rows};
+ghost use Rattle.walks.specs.Walks.{ShownWalk, ShownIfTurns};
+ghost use Rattle.walks.specs.Best.{ReadyFor, Explains, Explained, LeastRow, Back, EndSum, Went};
+
+fn low(x: usize) -> u16
+    requires { ⌜ x < 65536 ⌝ }
+    ensures { λ r. ⌜ r ≡ x ⌝ }
+{
+    x as u16
+}
+
+// The least row that has state e's number of row top.
+fn least_row(best: &[u32], e: usize, top: usize) -> usize
+    requires { ⌜ (length (now best) ≡ 7648) × (top ≤ 238) × (e < 32) ⌝ }
+    ensures { λ a. ⌜ LeastRow (now (best .entry)) e top a ⌝ }
+{
+    let x = number(best, top, e);
+    let mut a: usize = 0;
+    while a < top {
+        if number(best, a, e) == x {
+            return a;
+        }
+        a += 1;
+    }
+    a
+}
+
+// Whether transition j is the last step of a walk that gives the number in row a at e.
+fn explains(cells: &Cells, count: usize, best: &[u32], e: usize, a: usize, j: usize) -> bool
+    requires { ⌜ Sound (now cells) count × (j < count) × (length (now best) ≡ 7648) × (a ≤ 238) × (e < 32) ⌝ }
+    ensures { λ r. ⌜ Tells r (Explains (rows (now (cells .entry)) count) (now (best .entry)) e a j) ⌝ }
+{
+    let r = row(cells, count, j);
+    if r.to as usize != e {
+        return false;
+    }
+    let u = r.u as usize;
+    if a < u {
+        return false;
+    }
+    let x = number(best, a - u, r.from as usize);
+    if x == 0 {
+        return false;
+    }
+    let y = number(best, a, e);
+    if x as usize + words::late_gap(r) as usize != y as usize {
+        return false;
+    }
+    true
+}
+
+// A transition that explains the number in row a at e.
+fn explain(cells: &Cells, count: usize, best: &[u32], e: usize, a: usize) -> usize
+    requires { ⌜ Sound (now cells) count × (length (now best) ≡ 7648) × (a ≤ 238) × (e < 32) × Explained (rows (now cells) count) (now best) e a ⌝ }
+    ensures { λ j. ⌜ (j < count) × Explains (rows (now (cells .entry)) count) (now (best .entry)) e a j ⌝ }
+{
+    let mut j: usize = 0;
+    while j < count {
+        if explains(cells, count, best, e, a, j) {
+            return j;
+        }
+        j += 1;
+    }
+    0
+}
+
+// The walk from s that ends with transition j, written from place `from` on: `sum` is the whole sum of lower bounds, j's own with it.
+// Each call writes its transition after the walk before it, which has a smaller sum. Where nothing is left j is the first step: the
+// one right after k, which the caller has written.
+fn walk_back(
+    cells: &Cells,
+    count: usize,
+    s: usize,
+    best: &[u32],
+    j: usize,
+    sum: usize,
+    trace: &mut [u16],
+    from: usize,
+) -> usize
+    requires { ⌜ Sound (now cells) count × Back (rows (now cells) count) s (now best) j sum × (from + sum ≤ length (now trace)) ⌝ }
+    ensures { λ n. ⌜ Went (rows (now (cells .entry)) count) s (now (best .entry)) j sum from (now (trace .entry)) (now (trace .exit)) n ⌝ }
+{
+    let r = row(cells, count, j);
+    let left = sum - r.u as usize;
+    if left == 0 {
+        trace[from] = low(j);
+        return 1;
+    }
+    let i = explain(cells, count, best, r.from as usize, left);
+    let n = walk_back(cells, count, s, best, i, left, trace, from);
+    trace[from + n] = low(j);
+    n + 1
+}
+
+// The whole sum of lower bounds of the walk from k to the end m that is walked back.
+fn end_sum(cells: &Cells, count: usize, best: &[u32], k: usize, m: usize) -> usize
+    requires { ⌜ Sound (now cells) count × (k < count) × ReadyFor (rows (now cells) count) k (now best) × TurnsTo (rows (now cells) count) k m ⌝ }
+    ensures { λ sum. ⌜ EndSum (rows (now (cells .entry)) count) k m (now (best .entry)) sum ⌝ }
+{
+    let first = row(cells, count, k);
+    let last = row(cells, count, m);
+    let top = criterion::most_before(first, last);
+    least_row(best, last.from as usize, top) + last.u as usize
+}
+
+// Step k, then the walk back from its end m, written from place `from` on.
+fn write_pair(
+    cells: &Cells,
+    count: usize,
+    best: &[u32],
+    k: usize,
+    m: usize,
+    trace: &mut [u16],
+    from: usize,
+) -> usize
+    requires { ⌜ Sound (now cells) count × (k < count) × ReadyFor (rows (now cells) count) k (now best) × TurnsTo (rows (now cells) count) k m
+        × (from + 239 ≤ length (now trace)) ⌝ }
+    ensures { λ n. ⌜ ShownWalk (rows (now (cells .entry)) count) k m from (now (trace .entry)) (now (trace .exit)) n ⌝ }
+{
+    let s = row(cells, count, k).to as usize;
+    let sum = end_sum(cells, count, best, k, m);
+    trace[from] = low(k);
+    walk_back(cells, count, s, best, m, sum, trace, from + 1) + 1
+}
+
+// The sums of the walks after k, as far as its ends are looked at.
+fn fill_for(cells: &Cells, count: usize, k: usize, best: &mut [u32])
+    requires { ⌜ Sound (now cells) count × (k < count) × (length (now best) ≡ 7648) ⌝ }
+    ensures { λ _. ⌜ ReadyFor (rows (now (cells .entry)) count) k (now (best .exit)) ⌝ }
+{
+    let s = row(cells, count, k).to as usize;
+    let top = deeper(cells, count, k, 0);
+    fill(cells, count, s, best, top);
+}
+
+// A turning pair whose first step is k, with the least end, written from place `from` on; 0 where there is none.
+pub(crate) fn show(
+    cells: &Cells,
+    count: usize,
+    k: usize,
+    best: &mut [u32],
+    trace: &mut [u16],
+    from: usize,
+) -> usize
+    requires { ⌜ Sound (now cells) count × (k < count) × (length (now best) ≡ 7648) × (from + 239 ≤ length (now trace)) ⌝ }
+    ensures { λ n. ⌜ ShownIfTurns (rows (now (cells .entry)) count) k from (now (trace .entry)) (now (trace .exit)) n ⌝ }
+{
+    fill_for(cells, count, k, best);
+    match ends(cells, count, best, k) {
+        Found::At(m) => write_pair(cells, count, best, k, m, trace, from),
+        Found::Nothing => 0,
+    }
+}
