@@ -68,7 +68,7 @@ unfoldable pub responsesOf : List Transition → ℕ → List ℕ → List Respo
 responsesOf tr start stamps = map (response tr (wordFrom tr start stamps)) (order tr (wordFrom tr start stamps))
 
 -- a valid machine, and a trace of it
-pub record Ready (m : Machine) (trace : List ℕ) : Type 0 where
+pub record Prepared (m : Machine) (trace : List ℕ) : Type 0 where
   pub valid : Valid m
   pub handed : Handed (m .transitions) trace
 
@@ -80,7 +80,7 @@ GapsSay tr start stamps answer order due =
     × (map (λ x. x .step) (responsesOf tr start stamps) ≡ order) × (map (λ x. x .time) (responsesOf tr start stamps) ≡ due))
     ((order ≡ []) × (due ≡ [])) answer
 
-module _ {m : Machine} {trace : List ℕ} (r : Ready m trace) (start : ℕ) (stamps : List ℕ) (e : length stamps ≡ length trace) where
+module _ {m : Machine} {trace : List ℕ} (r : Prepared m trace) (start : ℕ) (stamps : List ℕ) (e : length stamps ≡ length trace) where
   abbrev tr : List Transition
   tr = steps (m .transitions) trace
 
@@ -165,7 +165,7 @@ module _ {n : ℕ} {a b : Transition} (good : All (InRange n) (a ∷ b ∷ [])) 
         }) refl,
       )
 
-judges-alone : {m : Machine} {trace : List ℕ} {a b : Transition} {answer : Fields} → Ready m trace → steps (m .transitions) trace ≡ a ∷ b ∷ []
+judges-alone : {m : Machine} {trace : List ℕ} {a b : Transition} {answer : Fields} → Prepared m trace → steps (m .transitions) trace ≡ a ∷ b ∷ []
     → PairSays a b answer → Holds (judged m trace answer)
 judges-alone {m = m} {trace = trace} {answer = answer} r e p s₀ room =
     let s = says (rw e at (handed-ranged m trace (r .valid) (r .handed))) s₀ p in
@@ -247,10 +247,10 @@ module _ {m : Machine} (valid : Valid m) (unsplit : (i j : ℕ) → SplitPair m 
 -- what is left to compute of a case
 abbrev pub Computed : Case → Type 0
 Computed (replayed m trace start stamps answer order due) =
-    Ready m trace × (length stamps ≡ length trace) × GapsSay (steps (m .transitions) trace) start stamps answer order due
+    Prepared m trace × (length stamps ≡ length trace) × GapsSay (steps (m .transitions) trace) start stamps answer order due
 Computed (judged m trace answer) =
     let tr : List Transition = steps (m .transitions) trace in
-    Ready m trace × (tr ≡ at tr 0 ∷ at tr 1 ∷ []) × PairSays (at tr 0) (at tr 1) answer
+    Prepared m trace × (tr ≡ at tr 0 ∷ at tr 1 ∷ []) × PairSays (at tr 0) (at tr 1) answer
 Computed (tabled m answer trace stamps) = Valid m × ((i j : ℕ) → SplitPair m i j → ⊥) × WalksSay m answer trace stamps
 Computed (sized c) = (states initial : ℕ) → Size states initial → Computed (c states initial)
 

@@ -15,19 +15,19 @@ use Rattle.model.proofs.Lists.{all-map}
 use Rattle.model.proofs.Conversion.{ordering, before-linear, before-dec}
 use Rattle.table.specs.Tests.{refuses, answers}
 use Rattle.cases.specs.Cases.{source, two, one, bare, short, cases, Holds}
-use Rattle.cases.proofs.CaseLaws.{Chain, leads, chain-valid, chain-unsplit, Ready, responsesOf, OnlyTwo, computed-holds}
+use Rattle.cases.proofs.CaseLaws.{Chain, leads, chain-valid, chain-unsplit, Prepared, responsesOf, OnlyTwo, computed-holds}
 
 -- a trace from state 0
-ready : {m : Machine} {trace : List ℕ} (e : ℕ) → Valid m → (1 ≤ length trace) × (length trace ≤ 512) × Trace (m .transitions) 0 trace e → Ready m trace
+ready : {m : Machine} {trace : List ℕ} (e : ℕ) → Valid m → (1 ≤ length trace) × (length trace ≤ 512) × Trace (m .transitions) 0 trace e → Prepared m trace
 ready e v (some, most, path) = record { valid = v; handed = record { some = some; most = most; start = 0; end = e; path = path } }
 
-on-source : Ready source (0 ∷ 1 ∷ 2 ∷ [])
+on-source : Prepared source (0 ∷ 1 ∷ 2 ∷ [])
 on-source = ready 3 (chain-valid source (omega arith) (omega arith) (omega arith)) (omega arith)
 
-on-one : Ready one (0 ∷ [])
+on-one : Prepared one (0 ∷ [])
 on-one = ready 1 (chain-valid one (omega arith) (omega arith) (omega arith)) (omega arith)
 
-on-two : (d : ℕ) → (1 ≤ d) × (d ≤ 240) → Ready (two d) (0 ∷ 1 ∷ [])
+on-two : (d : ℕ) → (1 ≤ d) × (d ≤ 240) → Prepared (two d) (0 ∷ 1 ∷ [])
 on-two d (low, high) = ready 2 (chain-valid (two d) (omega arith) (omega arith) (omega arith)) (omega arith)
 
 short-chain : Chain (short .states) 0 (short .transitions)

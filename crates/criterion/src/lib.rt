@@ -2,7 +2,7 @@
 use table::Row;
 ghost use mathlib.Core.Path.{_≡_};
 ghost use Rattle.model.specs.Answers.{Tells};
-ghost use Rattle.model.specs.Criterion.{Above, Below, Crosses, slack};
+ghost use Rattle.model.specs.Criterion.{Above, Below, Crosses, Spent, slack};
 ghost use Rattle.table.specs.Rows.{said};
 
 // U < D: whether m can respond before k, for the sum u of lower bounds after k up to m.
@@ -33,6 +33,16 @@ pub fn crosses(k: Row, m: Row, u: u32, late: u32) -> bool
         return false;
     }
     if !below(k, m, late) {
+        return false;
+    }
+    true
+}
+
+// So much u that no later step is above k: every delay is at least 1.
+pub fn spent(k: Row, u: u32) -> bool
+    ensures { λ b. ⌜ Tells b (Spent (said k) u) ⌝ }
+{
+    if (u as u64) + 1 < (k.d as u64) {
         return false;
     }
     true

@@ -1,4 +1,5 @@
--- The two halves of the criterion: what the searches cite. Nothing but this file and the theorems on pairs opens them.
+-- The two halves of the criterion: what the searches cite. Besides this file only the theorems on pairs and on the shown words open them,
+-- and crate `criterion`, which has them on rows.
 use mathlib.Core.Path.{_≡_}
 use mathlib.Core.List.{List}
 use mathlib.Core.Logic.{_⊎_, inl, inr, _↔_, by-cases}
@@ -10,7 +11,7 @@ use Rattle.model.specs.Lists.{between}
 use Rattle.model.specs.Table.{Transition, InRange, at}
 use Rattle.model.specs.Shown.{lateGap}
 use Rattle.model.specs.Span.{span, lateSum, sumU, sumV}
-use Rattle.model.specs.Criterion.{Above, Below, slack, Criterion}
+use Rattle.model.specs.Criterion.{Above, Below, Spent, slack, Criterion}
 use Rattle.model.proofs.Lists.{total-scale}
 
 -- late gaps are whole ticks
@@ -67,6 +68,11 @@ module _ (k m : Transition) where
   unfolding Above
   above-bound u least top h l t = omega arith
 
+  -- a bound that is reached stays
+  pub spent-none : (u x : ℕ) → Spent k u → 1 ≤ m .d → u ≤ x → Above k m x → ⊥
+  unfolding Above Spent
+  spent-none u x s l h a = omega arith
+
   -- the greatest u before m
   pub slack-fits : Above k m (m .u) → Above k m (slack k m + m .u)
   unfolding Above slack
@@ -80,6 +86,11 @@ module _ (k m : Transition) where
   pub slack-small : {a b : ℕ} → InRange a k → InRange b m → slack k m ≤ 237
   unfolding slack
   slack-small first last = omega (arith, first .late, last .soon, last .low)
+
+-- a bound on u while it is not reached
+pub unspent : (k : Transition) (u top : ℕ) → (Spent k u → ⊥) → k .d ≤ top → u + 1 < top
+unfolding Spent
+unspent k u top n h = by-cases (decLt (u + 1) (k .d)) (λ l. omega arith) (λ m. absurd (n (omega arith)))
 
 -- a step t between two others: if m is above k, then t is above k or m above t
 pub above-chain : (k t m : Transition) (u : ℕ) → Above k m (t .u + u) → Above k t (t .u) ⊎ Above t m u

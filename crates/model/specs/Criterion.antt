@@ -1,5 +1,5 @@
 -- The criterion of a pair, for the theorems to compare with the definition by words, and the walks that meet it. Its two halves have one
--- name each, and everything that searches goes by their laws.
+-- name each, and everything that searches goes by their laws (R-1 asks the first alone; R-3, R-7 and R-10 change what stands here).
 use mathlib.Core.List.{List, [], _∷_, _++_}
 use Prim.Native.Nat.{ℕ, _+_, _*_, _-_, _≤_, _<_}
 use lib.ListN.{length}
@@ -20,7 +20,11 @@ pub record Crosses (k m : Transition) (u late : ℕ) : Type 0 where
   pub above : Above k m u
   pub below : Below k m late
 
--- the greatest sum of lower bounds before m with which m is still above
+-- so much u that no later step is above k, since every delay is at least 1
+unfoldable pub Spent : Transition → ℕ → Type 0
+Spent k u = k .d ≤ u + 1
+
+-- the greatest sum of lower bounds before m with which m is still above; 0 where there is none
 unfoldable pub slack : Transition → Transition → ℕ
 slack k m = k .d - (m .d + m .u) - 1
 

@@ -19,7 +19,7 @@ use Rattle.verdict.specs.OnTrace.{TraceSays, says-steady, says-turning as trace
 use Rattle.table_verdict.specs.OnTable.{TableSays, says-strict, says-split, says-turning}
 use Rattle.places.specs.Places.{pathIn, traceTest}
 use Rattle.places.proofs.ReadingLaws.{of-file}
-use Rattle.sandgusset.specs.Packed.{packed, unpacked, Fits}
+use Rattle.sandgusset.specs.Packed.{packed, unpacked, In16Bits}
 use Rattle.sandgusset.specs.Exports.{JudgeAnswer, JudgeTraceAnswer, ReplayAnswer, RewriteAnswer}
 use Rattle.sandgusset.proofs.PackLaws.{packed-apart}
 
@@ -32,13 +32,13 @@ fails-fit : (l : List Test) (n p : ℕ) → EachFits l → Fails l n p → (n < 
 fails-fit (t ∷ l) n p e (inl f) = (rw (f .1) (e .0), rw (f .2) (e .1))
 fails-fit (t ∷ l) n p e (inr f) = fails-fit l n p (e .2 (f .0)) (f .1)
 
-answered-fits : {tests : List Test} {Done : Fields → Type 0} {Kept : Type 0} {f : Fields} → EachFits tests → (Passes tests → Done f → Fits f)
-    → Answered tests Done Kept f → Fits f
+answered-fits : {tests : List Test} {Done : Fields → Type 0} {Kept : Type 0} {f : Fields} → EachFits tests → (Passes tests → Done f → In16Bits f)
+    → Answered tests Done Kept f → In16Bits f
 answered-fits {tests} each done (refuses {n = n} {p = p} e x k) = let h = fails-fit tests n p each x in rw e (omega arith)
 answered-fits each done (answers p d) = done p d
 
 -- the reader refuses by the first 4,634 bytes
-reader-fits : (file : List ℕ) {f : Fields} (n p : ℕ) → readFile file ≡ stopped n p → f ≡ fields n p 0 0 → Fits f
+reader-fits : (file : List ℕ) {f : Fields} (n p : ℕ) → readFile file ≡ stopped n p → f ≡ fields n p 0 0 → In16Bits f
 reader-fits file n p e g =
     let h = places (take 4634 file) n p (near file 4634 (omega arith) ∙ e) in
     rw g (omega (arith, h .inside, h .last, length-take 4634 file))
@@ -55,18 +55,18 @@ gaps-fit i (t ∷ tr) gaps h = (omega arith, omega arith, λ g. gaps-fit (suc i)
 file-few : (file : List ℕ) → Bytes file → (m : Machine) → readFile file ≡ machine m → length file ≤ 4620
 file-few file b m e = let k = sound file m b e in omega (arith, k .0 .few, ap length (k .1), length-file m)
 
-trace-fits : {tr : List Transition} {Kept : Type 0} {Left : List ℕ → Type 0} {f : Fields} → length tr ≤ 512 → TraceSays tr Kept Left f → Fits f
+trace-fits : {tr : List Transition} {Kept : Type 0} {Left : List ℕ → Type 0} {f : Fields} → length tr ≤ 512 → TraceSays tr Kept Left f → In16Bits f
 trace-fits h (says-steady e n k) = rw e (omega arith)
 trace-fits h (trace-turning e t w) = let p = t .pair .pair .early in rw e (omega (arith, p .ordered, p .inside))
 
-table-fits : {m : Machine} {Kept : Type 0} {Left : List ℕ → List ℕ → Type 0} {f : Fields} → length (m .transitions) ≤ 256 → TableSays m Kept Left f → Fits f
+table-fits : {m : Machine} {Kept : Type 0} {Left : List ℕ → List ℕ → Type 0} {f : Fields} → length (m .transitions) ≤ 256 → TableSays m Kept Left f → In16Bits f
 table-fits h (says-strict e p k) = rw e (omega arith)
 table-fits h (says-split e a l) = rw e (omega (arith, a .few, a .pair .pair .ordered, a .pair .pair .inside))
 table-fits h (says-turning e a l) = rw e (omega (arith, a .few, a .ends, a .turns .early .ordered))
 
 -- what the exports allow
 pub replay-fits : {file trace : List ℕ} {start : ℕ} {stamps order₀ due₀ order due : List ℕ} {r : ℕ}
-    (x : ReplayAnswer file trace start stamps order₀ due₀ r order due) → Fits (x .said)
+    (x : ReplayAnswer file trace start stamps order₀ due₀ r order due) → In16Bits (x .said)
 replay-fits {file} {trace} {start} {stamps} x =
     of-file (readFile file) _ _ (λ n p e k. reader-fits file n p e (k .0))
     (λ m e. answered-fits (
@@ -85,23 +85,23 @@ replay-fits {file} {trace} {start} {stamps} x =
     )
     (λ p d. rw (d .0) (omega arith))) (x .outcome)
 
-pub rewrite-fits : {file out₀ out : List ℕ} {r : ℕ} → Bytes file → (x : RewriteAnswer file out₀ r out) → Fits (x .said)
+pub rewrite-fits : {file out₀ out : List ℕ} {r : ℕ} → Bytes file → (x : RewriteAnswer file out₀ r out) → In16Bits (x .said)
 rewrite-fits {file} b x =
     of-file (readFile file) _ _ (λ n p e k. reader-fits file n p e (k .0))
     (λ m e. answered-fits (omega arith, omega arith, λ h. tt) (λ p d. rw (d .0) (omega (arith, file-few file b m e)))) (x .outcome)
 
-pub judge-trace-fits : {file trace stamps₀ stamps : List ℕ} {r : ℕ} (x : JudgeTraceAnswer file trace stamps₀ r stamps) → Fits (x .said)
+pub judge-trace-fits : {file trace stamps₀ stamps : List ℕ} {r : ℕ} (x : JudgeTraceAnswer file trace stamps₀ r stamps) → In16Bits (x .said)
 judge-trace-fits {file} {trace} x =
     of-file (readFile file) _ _ (λ n p e k. reader-fits file n p e (k .0))
     (λ m e. answered-fits (omega arith, omega arith, λ h. (omega arith, omega arith, λ i. tt)) (λ p d. trace-fits (path-few m trace (p .0)) d)) (x .outcome)
 
-pub judge-fits : {file trace₀ stamps₀ trace stamps : List ℕ} {r : ℕ} → Bytes file → (x : JudgeAnswer file trace₀ stamps₀ r trace stamps) → Fits (x .said)
+pub judge-fits : {file trace₀ stamps₀ trace stamps : List ℕ} {r : ℕ} → Bytes file → (x : JudgeAnswer file trace₀ stamps₀ r trace stamps) → In16Bits (x .said)
 judge-fits {file} b x =
     of-file (readFile file) _ _ (λ n p e k. reader-fits file n p e (k .0))
     (λ m e. answered-fits (omega arith, omega arith, λ h. tt) (λ p d. table-fits (sound file m b e .0 .few) d)) (x .outcome)
 
 -- taken apart, an export's number is its answer's fields
-apart : {r : ℕ} {f : Fields} → r ≡ packed f → Fits f → unpacked r ≡ f
+apart : {r : ℕ} {f : Fields} → r ≡ packed f → In16Bits f → unpacked r ≡ f
 apart {f = f} e h = ap unpacked e ∙ packed-apart f h
 
 pub replay-apart : {file trace : List ℕ} {start : ℕ} {stamps order₀ due₀ order due : List ℕ} {r : ℕ}

@@ -4,7 +4,7 @@ use Prim.Native.Nat.{ℕ, _+_, _*_, _%_, _/_, _<_}
 use native.Mathlib.Omega.{arith}
 use native.Mathlib.Nat.{div-div-eq-div-mul}
 use Rattle.model.specs.Answers.{Fields}
-use Rattle.sandgusset.specs.Packed.{packed, unpacked, Fits}
+use Rattle.sandgusset.specs.Packed.{packed, unpacked, In16Bits}
 
 -- one field below what stands above it
 abbrev over : ℕ → ℕ → ℕ
@@ -27,7 +27,7 @@ module _ (f : Fields) where
   three-above : packed f / 281474976710656 ≡ f .steps % 65536
   three-above = sym (div-div-eq-div-mul (packed f) 4294967296 65536) ∙ rw two-above (rest (f .second) (f .steps % 65536))
 
-  module _ (h : Fits f) where
+  module _ (h : In16Bits f) where
     packed-status : packed f % 65536 ≡ f .status
     packed-status = low (f .status) _ (omega arith)
 

@@ -12,7 +12,7 @@ abbrev pub unpacked : ℕ → Fields
 unpacked r = fields (r % 65536) (r / 65536 % 65536) (r / 4294967296 % 65536) (r / 281474976710656 % 65536)
 
 -- no field loses a bit
-pub record Fits (f : Fields) : Type 0 where
+pub record In16Bits (f : Fields) : Type 0 where
   pub status-fits : f .status < 65536
   pub first-fits : f .first < 65536
   pub second-fits : f .second < 65536

@@ -95,7 +95,3 @@ split-found cells count dist (At i j) p few states initial tells =
     record { pair = law i j .0 (p .1 .pair); least = λ x y q. p .1 .least x y (law x y .1 q) }
 split-found cells count dist Nothing p few states initial tells =
     λ i j q. p few i j (marked-split (rows cells count) dist states initial tells i j .1 q)
-
--- where there is no split pair, no word activates two traces
-pub nothing-splits : (m : Machine) → Valid m → SplitFound m Nothing → Splits m → ⊥
-nothing-splits m v none s = let p : _ = split-law m v .0 s in none (p .0) (p .1) (p .2)

@@ -10,7 +10,7 @@ ghost use Rattle.model.specs.Lists.{All};
 ghost use Rattle.model.specs.Table.{InRange};
 ghost use Rattle.table.specs.Rows.{rows, said};
 ghost use Rattle.table.specs.Check.{headFine, inRange};
-ghost use Rattle.table.specs.Tests.{Unlike};
+ghost use Rattle.model.specs.Table.{Unlike};
 
 // 1 to 32 states, the initial one among them.
 pub(crate) fn head_fine(states: u16, initial: u16) -> bool

@@ -16,10 +16,11 @@ use Rattle.model.proofs.Verdict.{not-strict-and-splits, not-strict-and-turns, n
 use Rattle.table.specs.declared.Table.{Table}
 use Rattle.table.specs.Rows.{machineOf}
 use Rattle.table.proofs.RefusalLaws.{refusal-some, refused-only}
-use Rattle.table.proofs.TestLaws.{answered-only}
+use Rattle.table.specs.Tests.{refuses, answers}
+use Rattle.table.proofs.TestLaws.{answered-done, answered-only}
 use Rattle.table_verdict.specs.declared.OnTable.{OnTable}
 use Rattle.table_verdict.specs.declared.OnTable.the-variants.{Strict as StrictTable, Split, Turning, Refused}
-use Rattle.table_verdict.specs.OnTable.{tableFields, ShowsSplit, ShowsTurning, TableSays, says-strict, says-split, says-turning, TableOutcome}
+use Rattle.table_verdict.specs.OnTable.{tableFields, ShowsTurning, TableSays, says-strict, says-split, says-turning, TableOutcome}
 use Rattle.table_verdict.specs.Agree.{shownIn, atStep, Agree, ByTrace}
 
 -- equal fields: equal answers
@@ -180,6 +181,27 @@ module _ (m : Machine) (trace₀ stamps₀ : List ℕ) where
       (λ d e. says-only (read trace stamps) (read trace' stamps')
       (λ k l. (k .0 ∙ sym (l .0), k .1 ∙ sym (l .1))) (λ a b k l. (k .0 ∙ sym (l .0), k .1 ∙ sym (l .1))) d e h) x y in
       (answer-only r s (o .0), o .1 .0, o .1 .1)
+
+  -- what shows nothing: strict and a refusal
+  plain-steps : {f : Fields} {trace stamps : List ℕ} → f .status < 256 → TableOutcome m trace₀ stamps₀ f trace stamps → f .steps ≡ 0
+  plain-steps h (refuses e b k) = ap (λ x. x .steps) e
+  plain-steps h (answers p (says-strict e s k)) = ap (λ x. x .steps) e
+  plain-steps h (answers p (says-split e a l)) = absurd (omega (arith, ap (λ x. x .status) e))
+  plain-steps h (answers p (says-turning e a l)) = absurd (omega (arith, ap (λ x. x .status) e))
+
+  -- two outcomes that show nothing are equal
+  pub outcome-plain-only : (r s : OnTable) (trace stamps trace' stamps' : List ℕ) → tableFields r .status < 256 → Out r trace stamps → Out s trace' stamps'
+      → (r ≡ s) × (trace ≡ trace') × (stamps ≡ stamps')
+  outcome-plain-only r s trace stamps trace' stamps' h x y =
+      let e : tableFields r ≡ tableFields s = outcome-agree r s trace stamps trace' stamps' x y .plain h in
+      let a : tableFields r .steps ≡ 0 = plain-steps h x in
+      let b : tableFields s .steps ≡ 0 = omega (arith, ap (λ f. f .steps) e) in
+      outcome-only r s trace stamps trace' stamps' x y (rw (a, b))
+
+  -- K is the first place of its transition in the shown trace, and M the trace's length
+  pub outcome-by-trace : (r : OnTable) (trace stamps : List ℕ) → tableFields r .status ≡ 257 → Out r trace stamps
+      → ByTrace (shownIn (tableFields r) trace) (tableFields r .first) (tableFields r .second)
+  outcome-by-trace r trace stamps q x = says-by (read trace stamps) q (answered-done (omega arith) (λ h k. omega arith) x .1)
 
 -- two table values of one machine get the same outcomes
 pub same-outcomes : (t u : Table) (trace₀ stamps₀ : List ℕ) → machineOf t ≡ machineOf u → (r : OnTable) (trace stamps : List ℕ)

@@ -15,7 +15,7 @@ use Rattle.model.specs.Shown.{splitWord}
 use Rattle.model.specs.Stamps.{stampsOf, shownStamps}
 use Rattle.model.proofs.Paths.{trace-append, trace-ranged}
 use Rattle.table.specs.declared.Row.{Row}
-use Rattle.table.specs.Rows.{rows, rowOf, said, named}
+use Rattle.table.specs.Rows.{rows, rowOf, said}
 use Rattle.table.specs.Fit.{Sound}
 use Rattle.table.proofs.FitLaws.{row-said, row-ranged}
 use Rattle.table.proofs.RowLaws.{length-rows}

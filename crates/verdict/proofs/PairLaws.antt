@@ -1,6 +1,6 @@
 -- The search for the least turning pair, over the steps of a trace.
 use mathlib.Core.Path.{_≡_, ap, _∙_}
-use mathlib.Core.Logic.{inl, inr, ⊎-elim, _↔_, dite}
+use mathlib.Core.Logic.{inl, inr, ⊎-elim, dite}
 use mathlib.Core.List.{List, [], _∷_}
 use Prim.Native.Nat.{ℕ, suc, _+_, _-_, _≤_, _<_}
 use native.Mathlib.Omega.{arith}
@@ -12,8 +12,8 @@ use Rattle.model.specs.Lists.{All, total, between}
 use Rattle.model.specs.Table.{Transition, InRange, at, none}
 use Rattle.model.specs.Shown.{lateGap}
 use Rattle.model.specs.Span.{sumU, sumLate}
-use Rattle.model.specs.Criterion.{Crosses, Criterion}
-use Rattle.model.proofs.CriterionLaws.{above-bound}
+use Rattle.model.specs.Criterion.{Crosses, Spent, Criterion}
+use Rattle.model.proofs.CriterionLaws.{spent-none, unspent}
 use Rattle.model.proofs.Words.{late-most}
 use Rattle.model.proofs.Lists.{total-append, total-const, length-between, all-at, all-between, all-total}
 use Rattle.table.specs.declared.Row.{Row}
@@ -101,17 +101,12 @@ module _ {c l : List ℕ} {k : ℕ} {f : Transition} {m u late : ℕ} (seen : Lo
         omega (arith, next-high, total-const 1048320 b, all-total lateGap (λ t. 1048320) late-most fine),
       )
 
-  -- the sum of u has reached k's d less the least d
-  pub none-later : f .d ≤ u + s .u + 1 → PartnerOf tr k Alone
+  -- u is spent at m, and so from m on
+  pub none-later : Spent f (u + s .u) → PartnerOf tr k Alone
   none-later h j x =
       dite (decLt j m) (λ a. seen .none-yet j a x) (λ b.
-      omega (
-        arith,
-        ap (λ t. t .d) (seen .first),
-        next-low,
-        sum-grows (λ t. t .u) tr k m j (omega arith),
-        above-bound (at tr k) (at tr j) (sumU tr k j) 1 (at tr k .d) (x .crosses .above) (all-at none (seen .ready .ranged) j (x .inside) .soon) (omega arith),
-      ))
+      spent-none (at tr k) (at tr j) (sumU tr k m) (sumU tr k j) (rw (seen .first, next-low) at h) (all-at none (seen .ready .ranged) j (x .inside) .soon)
+      (sum-grows (λ t. t .u) tr k m j (omega arith)) (x .crosses .above))
 
   -- what the code asks is the criterion
   asked : Crosses f (said s) (u + s .u) (late + g) ≡ Crosses (at tr k) (at tr m) (sumU tr k m) (sumLate tr k m)
@@ -124,20 +119,15 @@ module _ {c l : List ℕ} {k : ℕ} {f : Transition} {m u late : ℕ} (seen : Lo
   )
 
   -- each u is at least 1 and d at most 240: no more than 238 steps are passed
-  next-near : u + s .u + 1 < f .d → m - k ≤ 238
+  next-near : (Spent f (u + s .u) → ⊥) → m - k ≤ 238
   next-near h =
       let b : List Transition = between k m tr in
       let ones : total (λ t. 1) b ≤ sumU tr k m = all-total (λ t. 1) (λ t. t .u) (λ t x. x .low) (all-between k m (seen .ready .ranged)) in
-      omega (
-        arith,
-        ap (λ t. t .d) (seen .first),
-        next-low,
-        total-const 1 b,
-        length-between k m tr inside,
-        all-at none (seen .ready .ranged) k (omega (arith, inside)),
-      )
+      let late : at tr k .d ≤ 240 = all-at none (seen .ready .ranged) k (omega (arith, inside)) .late in
+      let h' : Spent (at tr k) (sumU tr k m) → ⊥ = rw (seen .first, next-low) at h in
+      omega (arith, total-const 1 b, length-between k m tr inside, unspent (at tr k) (sumU tr k m) 240 h' late)
 
-  pub looked-more : u + s .u + 1 < f .d → (Crosses f (said s) (u + s .u) (late + g) → ⊥)
+  pub looked-more : (Spent f (u + s .u) → ⊥) → (Crosses f (said s) (u + s .u) (late + g) → ⊥)
       → Looked c l k f (m + 1) (u + s .u) (late + g)
   looked-more below no-turn =
       let e : m + 1 - suc k ≡ m - k = omega arith in

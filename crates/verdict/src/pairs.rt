@@ -31,8 +31,8 @@ pub(crate) fn partner_of(cells: &Cells, trace: &[u16], k: usize) -> Partner
         let s = words::step(cells, trace, m);
         u += s.u as u32;
         late += words::late_gap(s);
-        // Every d is at least 1 and the sum of u grows, so no later step turns either.
-        if first.d as u32 <= u + 1 {
+        // The sum of u grows, so no later step turns either.
+        if criterion::spent(first, u) {
             return Partner::Alone;
         }
         if criterion::crosses(first, s, u, late) {

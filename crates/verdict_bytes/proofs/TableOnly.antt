@@ -10,7 +10,7 @@ use Rattle.model.specs.Table.{Machine}
 use Rattle.model.proofs.Lists.{all-append}
 use Rattle.model.proofs.Paths.{trace-known}
 use Rattle.wire.specs.Bytes.{bytes, Bytes, les, le, wholes}
-use Rattle.wire.proofs.Bytes.{Fits, les-bytes, length-bytes}
+use Rattle.wire.proofs.Bytes.{Held, les-bytes, length-bytes}
 use Rattle.table.specs.File.{readFile}
 use Rattle.table.specs.Tests.{refuses, answers}
 use Rattle.table.proofs.TestLaws.{answered-only, answered-done}
@@ -29,14 +29,14 @@ take-les w (suc n) zero l j h = absurd (omega arith)
 take-les w (suc n) (suc k) l j h = ap (λ (r : List ℕ). le w l j ∷ r) (take-les w n k l (j + w) (omega arith))
 
 -- numbers that are written over lent bytes stand first in them
-numbers-front : (l old : List ℕ) → Fits 2 l → take (length l) (wholes 2 (over (bytes 2 l) old)) ≡ l
+numbers-front : (l old : List ℕ) → Held 2 l → take (length l) (wholes 2 (over (bytes 2 l) old)) ≡ l
 numbers-front l old f =
     let rest : List ℕ = drop (length (bytes 2 l)) old in
     let long : length (over (bytes 2 l) old) ≡ length l * 2 + length rest = length-append (bytes 2 l) rest ∙ rw (length-bytes 2 l) in
     take-les 2 (length l) (length (over (bytes 2 l) old) / 2) (over (bytes 2 l) old) 0 (omega arith) ∙ les-bytes 2 l rest f
 
 -- numbers of transitions fit two bytes
-known-fits : (n : ℕ) → n ≤ 256 → {l : List ℕ} → All (λ i. i < n) l → Fits 2 l
+known-fits : (n : ℕ) → n ≤ 256 → {l : List ℕ} → All (λ i. i < n) l → Held 2 l
 known-fits n few all-nil = tt
 known-fits n few (all-cons h a) = (omega arith, known-fits n few a)
 
@@ -48,7 +48,7 @@ module _ (trace₀ stamps₀ : List ℕ) where
 
   -- a trace that fits two bytes a step and its stamps, in bytes
   abbrev Left : List ℕ → List ℕ → List ℕ → List ℕ → Type 0
-  Left trace stamps l s = Fits 2 l × ((trace ≡ over (bytes 2 l) trace₀) × (stamps ≡ over (bytes 4 s) stamps₀))
+  Left trace stamps l s = Held 2 l × ((trace ≡ over (bytes 2 l) trace₀) × (stamps ≡ over (bytes 4 s) stamps₀))
 
   reads : (trace stamps l s : List ℕ) → Left trace stamps l s → take (length l) (wholes 2 trace) ≡ l
   reads trace stamps l s p = rw (p .1 .0) (numbers-front l trace₀ (p .0))

@@ -65,10 +65,6 @@ module _ {c : List ℕ} {n k p : ℕ} {old : List ℕ} where
       ⊎-elim (λ s. inl (record { sound = z; known = h; room = r; after = record { m = s .m; turns = s .walk .turns } }, s))
       (λ e. inr (λ q. e .0 (q .after), e .1, e .2))
 
-  -- where a walk can be shown, it is
-  pub walk-shown : {out : List ℕ} {x : ℕ} → CanShow c n k p old → WalkOutcome c n k p old out x → ShownLeast (rows c n) k p old out x
-  walk-shown q = ⊎-elim (λ s. s .1) (λ e. absurd (e .0 q))
-
   -- two outcomes show walks with one end, or write nothing
   pub write-walk-agree : {a b : List ℕ} {x y : ℕ} → WalkOutcome c n k p old a x → WalkOutcome c n k p old b y → WalksAgree (rows c n) k p old a x b y
   write-walk-agree (inl s) (inl t) =

@@ -3,7 +3,7 @@ use native.Mathlib.Omega.{arith}
 use mathlib.Core.Path.{_≡_, sym, _∙_}
 use Prim.Native.Nat.{_≤_, _-_}
 use Rattle.table.specs.Rows.{rows}
-use Rattle.table.specs.Tests.{Unlike}
+use Rattle.model.specs.Table.{Unlike}
 use Rattle.table.proofs.RowLaws.{unlike-none, unlike-next, unlike-stop}
 use Rattle.table.proofs.ranges.all_unlike.Statement.{statement}
 use Rattle.table.proofs.ranges.all_unlike.Tie as tie

@@ -1,9 +1,7 @@
 -- Split, else turning, else strict. Assumes nothing.
 use borrow.Author.Needs.{needs}
-use native.Mathlib.Omega.{arith}
 use borrow.Author.Tests.{not-true, not-false}
 use Rattle.split_pair.specs.declared.Pair.the-variants.{At, Nothing}
-use Rattle.split_pair.specs.Split.{SplitOutcome}
 use Rattle.split_pair.proofs.SplitLaws.{split-found}
 use Rattle.table_verdict.proofs.DecideLaws.{turn-room, pair-room, split-decided, turn-decided}
 use Rattle.table_verdict.proofs.decide.decide.Statement.{statement}

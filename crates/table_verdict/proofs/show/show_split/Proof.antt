@@ -3,7 +3,7 @@ use borrow.Author.Needs.{needs}
 use native.Mathlib.Omega.{arith}
 use mathlib.Core.Path.{ap}
 use Prim.Native.Nat.{ℕ, _+_}
-use lib.ListN.{length-set, length-take}
+use lib.ListN.{length-take}
 use Rattle.table_verdict.specs.declared.OnTable.the-variants.{Split}
 use Rattle.table_verdict.proofs.ShownLaws.{bounds, way-number, split-traced, split-stamped}
 use Rattle.table_verdict.proofs.show.show_split.Statement.{statement}

@@ -47,23 +47,16 @@ add-late c =
       next-small (c .before .before .before .before .loop .inv) (omega arith) (c .before .before .step2 .result) (c .before .before .step2 .ensures) (c .late-gap .result) (c .late-gap .ensures),
     )
 
-cast-if1 : tie.Need-cast-if1 Inv-loop μ-loop
-cast-if1 c = search needs
-
-add-if1 : tie.Need-add-if1 Inv-loop μ-loop
-add-if1 c =
-    omega (
-      arith,
-      next-small (c .before .before .before .before .before .loop .inv) (omega arith) (c .before .before .before .step2 .result)
-          (c .before .before .before .step2 .ensures) (c .before .late-gap .result) (c .before .late-gap .ensures),
-    )
+spent-requires : tie.Need-spent-requires Inv-loop μ-loop
+spent-requires c κs = search needs
 
 returns : tie.Need-returns Inv-loop μ-loop
 returns c =
     let s = c .before .before .before .before .step2 in
     let g = c .before .before .late-gap in
     let l = c .before .before .before .before .before .before .loop in
-    none-later (l .inv) (omega arith) (s .result) (s .ensures) (g .result) (g .ensures) (omega (arith, c .if1 .taken))
+    none-later (l .inv) (omega arith) (s .result) (s .ensures) (g .result) (g .ensures)
+    (told (c .before .spent .result) (c .before .spent .ensures) (c .if1 .taken))
 
 crosses-requires : tie.Need-crosses-requires Inv-loop μ-loop
 crosses-requires c κs = search needs
@@ -86,7 +79,7 @@ loop-again c =
     let s = c .before .before .before .before .before .before .step2 in
     let g = c .before .before .before .before .late-gap in
     let l = c .before .before .before .before .before .before .before .before .loop in
-    looked-more (l .inv) (omega arith) (s .result) (s .ensures) (g .result) (g .ensures) (omega (arith, c .before .before .if1 .left))
+    looked-more (l .inv) (omega arith) (s .result) (s .ensures) (g .result) (g .ensures) (untold (c .before .before .before .spent .result) (c .before .before .before .spent .ensures) (c .before .before .if1 .left))
     (untold (c .before .crosses .result) (c .before .crosses .ensures) (c .if2 .left))
 
 returns-3 : tie.Need-returns-3 Inv-loop μ-loop
@@ -107,8 +100,7 @@ partner-of-spec =
     add-u
     late-gap-requires
     add-late
-    cast-if1
-    add-if1
+    spent-requires
     returns
     crosses-requires
     returns-2
