@@ -130,12 +130,11 @@ module _ {m : Machine} {trace : List ℕ} (r : Prepared m trace) (start : ℕ) (
 -- what the criterion says of two steps, the only pair that can turn
 abbrev pub PairSays : Transition → Transition → Fields → Type 0
 PairSays a b answer =
-    ((answer ≡ fields 0 0 0 0) × (b .u + b .d < a .d → b .v + b .d < a .d))
-    ⊎ ((answer ≡ fields 257 1 2 2) × (b .u + b .d < a .d) × (a .d ≤ b .v + b .d))
+    ((answer ≡ fields 0 0 0 0) × (InTicks (a ∷ b ∷ []) 0 1 → ⊥)) ⊎ ((answer ≡ fields 257 1 2 2) × InTicks (a ∷ b ∷ []) 0 1)
 
-only-pair : {a b : Transition} (k m : ℕ) → InTicks (a ∷ b ∷ []) k m → (k ≡ 0) × (m ≡ 1) × (b .u + b .d < a .d) × (a .d ≤ b .v + b .d)
+only-pair : {a b : Transition} (k m : ℕ) → InTicks (a ∷ b ∷ []) k m → (k ≡ 0) × (m ≡ 1)
 only-pair zero zero c = absurd (omega arith)
-only-pair zero (suc zero) c = (refl, refl, omega arith, omega arith)
+only-pair zero (suc zero) c = (refl, refl)
 only-pair zero (suc (suc m)) c = absurd (omega arith)
 only-pair (suc k) m c = absurd (omega arith)
 
@@ -148,11 +147,11 @@ module _ {n : ℕ} {a b : Transition} (good : All (InRange n) (a ∷ b ∷ [])) 
     s₀,
     says-steady e (λ x.
         let c = turning-law good .0 x in
-        let p = only-pair (c .0) (c .1) (criterion-is both (c .0) (c .1) .0 (c .2)) in
-        omega (arith, none (p .2))) refl,
+        let t : InTicks both (c .0) (c .1) = criterion-is both (c .0) (c .1) .0 (c .2) in
+        let p = only-pair (c .0) (c .1) t in
+        none (rw (p .0, p .1) at t)) refl,
   )
-  says (inr (e, above, below)) =
-      let t : InTicks both 0 1 = record { ordered = omega arith; inside = omega arith; above = omega arith; below = omega arith } in
+  says (inr (e, t)) =
       let c : Criterion both 0 1 = criterion-is both 0 1 .1 t in (
         over (shownStamps both 0 1) s₀,
         says-turning {k = 0} {m = 1} e (record {

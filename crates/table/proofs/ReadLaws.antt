@@ -15,6 +15,7 @@ use Rattle.model.specs.Table.{Transition}
 use Rattle.table.specs.declared.Refusal.{Refusal}
 use Rattle.table.specs.declared.Refusal.the-variants.{Misplaced, Full, OutOfRange, Repeated}
 use Rattle.table.specs.declared.Row.{Row}
+use Rattle.table.specs.declared.Checked.{Checked}
 use Rattle.table.specs.declared.Checked.the-variants.{Sound, Refused}
 use Rattle.table.specs.declared.Frame.the-variants.{Bad, Took, Last}
 use Rattle.table.specs.declared.Opening.the-variants.{Opened, Shut}
@@ -25,7 +26,7 @@ use Rattle.table.specs.Refusal.{refusalNumber, refusalPlace, checkedFiel
 use Rattle.table.specs.Rows.{rows, said, putRow, cellsOf, tableIn, tableOf}
 use Rattle.table.specs.Check.{inRange, has}
 use Rattle.table.specs.File.{headIn, readFile, bare, ReadOutcome, machine, stopped, frameIn, Listed, found, refused}
-use Rattle.table.specs.File.{ended, admitted, rowsFrom, RowsOutcome, finishOf, admitOf}
+use Rattle.table.specs.File.{onCounted, ended, admission, onChecked, admitted, rowsFrom, RowsOutcome, finishOf, admitOf}
 use Rattle.table.proofs.RowLaws.{length-rows}
 use Rattle.table.proofs.FrameLaws.{took-says, admit-full}
 use Rattle.table.proofs.CellLaws.{rows-cells, put-cells}
@@ -62,6 +63,24 @@ pub kept-start : (file : List ℕ) (states : ℕ) (cells : List ℕ) → 8 ≤ l
 unfolding rows
 kept-start file states cells h e = record { few = omega arith; inside = h; shape = e; same = refl }
 
+-- the end and a transition, as choices
+pub ended-is : (at : ℕ) (rest : List ℕ) (ts : List Transition) → ended at rest ts ≡ cond (ltb 4 (length rest)) (refused 2 (at + 4)) (found ts)
+ended-is at rest ts = by (ltb 4 (length rest))
+  where
+    by : (b : Bool) → onCounted (cond b (Stop (Misplaced (at + 4))) (Count (length ts))) ts ≡ cond b (refused 2 (at + 4)) (found ts)
+    by true = refl
+    by false = refl
+
+pub admitted-is : (states at : ℕ) (ts : List Transition) (t : Transition) (next : Listed)
+    → admitted states at ts t next ≡ cond (inRange states t) (cond (has t ts) (refused 5 at) next) (refused 4 at)
+admitted-is states at ts t next = by (inRange states t) (has t ts)
+  where
+    by : (b d : Bool) → onChecked (cond b (cond d (Refused (Repeated at)) Sound) (Refused (OutOfRange at))) next
+        ≡ cond b (cond d (refused 5 at) next) (refused 4 at)
+    by true true = refl
+    by true false = refl
+    by false d = refl
+
 -- what the tests 3, 4, 5 found
 admit-says : (states at n : ℕ) (ts : List Transition) (t : Transition) → n < 256 → admitOf states at n ts t ≡ Sound → (inRange states t ≡ true) × (has t ts ≡ false)
 unfolding admitOf
@@ -83,19 +102,9 @@ admit-few states at n ts t f e = dite (decLt n 256) (λ h. h) (λ h. let q = rw 
 admit-stop : (states at n : ℕ) (ts : List Transition) (t : Transition) (x : Refusal) → n < 256 → Refused x ≡ admitOf states at n ts t
     → (next : Listed) → admitted states at ts t next ≡ refused (refusalNumber x) (refusalPlace x)
 unfolding admitOf
-admit-stop states at n ts t x h e next = by-range (inRange states t) (rw (lt-leb 256 n h) at e)
-  where
-    same-refusal : (y : Refusal) → Refused x ≡ Refused y → refused (refusalNumber y) (refusalPlace y) ≡ refused (refusalNumber x) (refusalPlace x)
-    same-refusal y e = let f : x ≡ y = cc in rw f
-
-    by-twin : (b : Bool) → Refused x ≡ cond b (Refused (Repeated at)) Sound → cond b (refused 5 at) next ≡ refused (refusalNumber x) (refusalPlace x)
-    by-twin true e = same-refusal (Repeated at) e
-    by-twin false e = let z : _≡_ {A = ℕ} 0 1 = cc in absurd (omega arith)
-
-    by-range : (b : Bool) → Refused x ≡ cond b (cond (has t ts) (Refused (Repeated at)) Sound) (Refused (OutOfRange at))
-        → cond b (cond (has t ts) (refused 5 at) next) (refused 4 at) ≡ refused (refusalNumber x) (refusalPlace x)
-    by-range true e = by-twin (has t ts) e
-    by-range false e = same-refusal (OutOfRange at) e
+admit-stop states at n ts t x h e next =
+    let q : Refused x ≡ admission states at ts t = rw (lt-leb 256 n h) at e in
+    ap (λ (a : Checked). onChecked a next) (sym q)
 
 admit-full-says : (states at n : ℕ) (ts : List Transition) (t : Transition) (x : Refusal) → 256 ≤ n → Refused x ≡ admitOf states at n ts t → x ≡ Full at
 admit-full-says states at n ts t x h e = let f : Refused x ≡ Refused (Full at) = e ∙ sym (admit-full states at n ts t h) in cc
