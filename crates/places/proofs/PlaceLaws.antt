@@ -12,7 +12,7 @@ use Rattle.model.specs.Lists.{over}
 use Rattle.model.specs.Table.{Transition}
 use Rattle.model.specs.Trace.{Handed}
 use Rattle.wire.specs.Bytes.{bytes, placed, wholes, taken}
-use Rattle.wire.proofs.Bytes.{length-les, length-bytes, placed-fits}
+use Rattle.wire.proofs.Bytes.{length-les, length-bytes, placed-fits, placed-none}
 use Rattle.places.specs.Places.{fitted, handedOn, Decoded}
 
 pub length-wholes : (w : ℕ) (b : List ℕ) → length (wholes w b) ≡ length b / w
@@ -97,10 +97,15 @@ module _ (ts : List Transition) (trace : List ℕ) where
   trace-count h = ap length (handed-whole 2 trace (h .some) .is) ∙ length-wholes 2 trace
 
 -- no more are taken than there are
-pub take-lesser : (n : ℕ) (l : List ℕ) {k : ℕ} → k ≡ min n (length l) → take k l ≡ take n l
+take-lesser : (n : ℕ) (l : List ℕ) {k : ℕ} → k ≡ min n (length l) → take k l ≡ take n l
 take-lesser n l {k} h =
     dite (decLt n (length l)) (λ f. let e : k ≡ n = omega arith in rw e)
     (λ f. let e : k ≡ length l = omega arith in rw (e, take-length l, take-all n l (omega arith)))
+
+-- so the first n are written back, of which there may be fewer
+pub put-back : (w n : ℕ) (l out₀ : List ℕ) {k : ℕ} {out : List ℕ} → k ≡ min n (length l) → out ≡ placed out₀ 0 (bytes w (take k l))
+    → out ≡ placed out₀ 0 (bytes w (take n l))
+put-back w n l out₀ h e = rw (← take-lesser n l h) e
 
 -- the used places written back: xs, of which there are n, from the front of what came back
 pub back-over : (w n : ℕ) (xs more l : List ℕ) → length xs ≡ n → n * w ≤ length l → placed l 0 (bytes w (take n (xs ++ more))) ≡ over (bytes w xs) l
@@ -114,3 +119,22 @@ pub back : (w n : ℕ) (xs more l : List ℕ) → length xs ≡ n → n * w ≤ 
 back w n xs more l e h =
     let d : length (bytes w xs) ≡ w * n = length-bytes w xs ∙ ap (λ (k : ℕ). k * w) e ∙ omega arith in
     back-over w n xs more l e h ∙ rw d
+
+-- none written back: as it was
+pub back-none : (w : ℕ) (xs l : List ℕ) → placed l 0 (bytes w (take 0 xs)) ≡ l
+unfolding bytes
+back-none w xs l = placed-none l 0 (omega arith)
+
+-- n numbers of two bytes and k of four, from the front of what a call on values left, written back over l and r
+module _ (n k : ℕ) (u v l r : List ℕ) {l' r' : List ℕ} (twos : l' ≡ placed l 0 (bytes 2 (take n u))) (fours : r' ≡ placed r 0 (bytes 4 (take k v))) where
+  -- none: both as they were
+  pub both-none : n ≡ 0 → k ≡ 0 → (l' ≡ l) × (r' ≡ r)
+  both-none e f = ((rw e at twos) ∙ back-none 2 u l, (rw f at fours) ∙ back-none 4 v r)
+
+  -- all that the call wrote over its own places a and b: the same in bytes
+  pub both-over : (xs ys a b : List ℕ) → length xs ≡ n → length ys ≡ k → n * 2 ≤ length l → k * 4 ≤ length r → (u ≡ over xs a) × (v ≡ over ys b)
+      → (l' ≡ over (bytes 2 xs) l) × (r' ≡ over (bytes 4 ys) r)
+  both-over xs ys a b e f g h o = (
+    twos ∙ rw (o .0) (back-over 2 n xs (drop (length xs) a) l e g),
+    fours ∙ rw (o .1) (back-over 4 k ys (drop (length ys) b) r f h),
+  )

@@ -1,15 +1,14 @@
 -- The tests of the gaps, place by place, and what the loop over them knows after i steps.
 use mathlib.Core.Path.{_≡_, refl, sym, _∙_}
-use mathlib.Core.Bool.{Bool, true, false}
-use mathlib.Core.Logic.{inl, inr, ⊎-elim, _↔_}
+use mathlib.Core.Bool.{Bool}
+use mathlib.Core.Logic.{inl, inr, _↔_}
 use mathlib.Core.List.{List, [], _∷_}
 use Prim.Native.Nat.{ℕ, zero, suc, _+_, _≤_, _<_}
-use native.Mathlib.Nat.{eq-or-lt-of-le}
 use native.Mathlib.Numerals.{add-one}
 use native.Mathlib.Omega.{arith}
+use borrow.Author.Count.{below-more}
 use lib.ListN.{length, getD}
 use Rattle.model.specs.Answers.{Tells}
-use Rattle.model.proofs.AnswerLaws.{told, untold}
 use Rattle.model.specs.Table.{Transition, at}
 use Rattle.model.specs.Word.{Fits}
 use Rattle.model.specs.Stamps.{gapOf, gapsFrom}
@@ -82,23 +81,22 @@ module _ (c trace : List ℕ) (start : ℕ) (stamps : List ℕ) where
     outside = λ e. absurd (omega arith);
   }
 
-  -- with the row, the gap and the answer of the guard test that the code has at i
-  module _ (e : length stamps ≡ length trace) (before i : ℕ) (k : Passed (named c trace) start stamps before i) (h : i < length trace) (row : Row) (gap : ℕ)
-      (b : Bool) (er : row ≡ rowOf c (getD trace i 0)) (eg : gap ≡ gapOf before (getD stamps i 0)) (told-b : Tells b (Fits 256 (said row) gap)) where
-    gap-is : gap ≡ getD (gapsFrom start stamps) i 0
-    gap-is = eg ∙ rw (k .last) (sym (gaps-at start stamps i (omega arith)))
+  module _ (e : length stamps ≡ length trace) {before i : ℕ} (k : Passed (named c trace) start stamps before i) (h : i < length trace) where
+    -- with the row and the gap that the code has at i: what the guard test tells
+    pub fits-here : {row : Row} {gap : ℕ} (b : Bool) → row ≡ rowOf c (getD trace i 0) → gap ≡ gapOf before (getD stamps i 0)
+        → Tells b (Fits 256 (said row) gap) → Tells b (Fits 256 (at (named c trace) i) (getD (gapsFrom start stamps) i 0))
+    fits-here {gap = gap} b er eg t =
+        let g : gap ≡ getD (gapsFrom start stamps) i 0 = eg ∙ rw (k .last) (sym (gaps-at start stamps i (omega arith))) in
+        rw (← at-named c trace i h, ← er, ← g) t
 
-    here : Tells b (Fits 256 (at (named c trace) i) (getD (gapsFrom start stamps) i 0))
-    here = rw (← at-named c trace i h, ← er, ← gap-is) told-b
-
-    pub one-passed : b ≡ true → Passed (named c trace) start stamps (getD stamps i 0) (i + 1)
-    one-passed t = record {
+    pub one-passed : Fits 256 (at (named c trace) i) (getD (gapsFrom start stamps) i 0) → Passed (named c trace) start stamps (getD stamps i 0) (i + 1)
+    one-passed f = record {
       last = rw (add-one i) refl;
-      done = λ j l. ⊎-elim (λ (x : j ≡ i). rw x (told b here t)) (λ (x : j < i). k .done j x) (eq-or-lt-of-le (omega arith));
+      done = below-more (λ j. Fits 256 (at (named c trace) j) (getD (gapsFrom start stamps) j 0)) i (k .done) f;
     }
 
-    pub stopped : b ≡ false → Tried (named c trace) (gapsFrom start stamps) (i + 1)
-    stopped f = record {
+    pub stopped : (Fits 256 (at (named c trace) i) (getD (gapsFrom start stamps) i 0) → ⊥) → Tried (named c trace) (gapsFrom start stamps) (i + 1)
+    stopped n = record {
       inside = λ z. absurd (omega arith);
-      outside = λ z. rw (add-one i) (gaps-fail (gapsFrom start stamps) (named c trace) i (omega (arith, length-named c trace)) (k .done) (untold b here f));
+      outside = λ z. rw (add-one i) (gaps-fail (gapsFrom start stamps) (named c trace) i (omega (arith, length-named c trace)) (k .done) n);
     }

@@ -46,22 +46,24 @@ module _ (t : Table) (trace stamps o₀ d₀ : List ℕ) where
   pub fails-table : {a : Checked} {r : Refusal} → a ≡ checked.Refused r → CheckOutcome m (checkedFields a) → Told (refusedFields r)
   fails-table e x = refuses refl (refused-fails m others e x) tt
 
-  module _ (valid : Valid m) where
-    pub fails-trace : (TraceIn (t .cells) (t .count) trace → ⊥) → Told (refusedFields NoTrace)
-    fails-trace n = refuses refl (valid-fails m valid others 6 0 .1 (inl ((λ h. n (trace-handed t trace valid .1 h)), refl, refl))) tt
+  pub fails-trace : Valid m → (TraceIn (t .cells) (t .count) trace → ⊥) → Told (refusedFields NoTrace)
+  fails-trace valid n =
+      refuses refl (valid-fails m valid others 6 0 .1 (inl ((λ h. n (trace-handed t trace valid .1 h)), refl, refl))) tt
 
-    module _ (traced : TraceIn (t .cells) (t .count) trace) where
-      handed : Handed (m .transitions) trace
-      handed = trace-handed t trace valid .0 traced
+  -- of a valid table and a trace of it, the lengths decide
+  pub record Lengths : Type 0 where
+    pub uneven : (length stamps ≡ length trace → ⊥) → Told (refusedFields Uneven)
+    pub cramped : length stamps ≡ length trace → ((length trace ≤ length o₀) × (length trace ≤ length d₀) → ⊥) → Told (refusedFields NoRoom)
+    pub roomy : length stamps ≡ length trace → length trace ≤ length o₀ → length trace ≤ length d₀ → Told (checkedFields checked.Sound)
 
-      pub fails-stamps : (length stamps ≡ length trace → ⊥) → Told (refusedFields Uneven)
-      fails-stamps n = refuses refl (valid-fails m valid others 7 0 .1 (inr (handed, inl (n, refl, refl)))) tt
-
-      pub fails-room : length stamps ≡ length trace → ((length trace ≤ length o₀) × (length trace ≤ length d₀) → ⊥) → Told (refusedFields NoRoom)
-      fails-room e n = refuses refl (valid-fails m valid others 8 0 .1 (inr (handed, inr (e, inl (n, refl, refl))))) tt
-
-      pub passes-all : length stamps ≡ length trace → length trace ≤ length o₀ → length trace ≤ length d₀ → Told (checkedFields checked.Sound)
-      passes-all e a b = answers (valid-passes m valid others (handed, (e, ((a, b), tt)))) refl
+  pub lengths : Valid m → TraceIn (t .cells) (t .count) trace → Lengths
+  lengths valid traced =
+      let handed = trace-handed t trace valid .0 traced in
+      record {
+        uneven = λ n. refuses refl (valid-fails m valid others 7 0 .1 (inr (handed, inl (n, refl, refl)))) tt;
+        cramped = λ e n. refuses refl (valid-fails m valid others 8 0 .1 (inr (handed, inr (e, inl (n, refl, refl))))) tt;
+        roomy = λ e a b. answers (valid-passes m valid others (handed, (e, ((a, b), tt)))) refl;
+      }
 
 -- the tests before the gaps', and all of them
 module _ (m : Machine) (trace : List ℕ) (start : ℕ) (stamps o₀ d₀ : List ℕ) where

@@ -16,7 +16,7 @@ use Rattle.model.proofs.Lists.{least-only}
 use Rattle.model.proofs.Split.{split-law}
 use Rattle.table.specs.declared.Row.{Row}
 use Rattle.table.specs.Rows.{rows, rowOf, said}
-use Rattle.table.proofs.RowLaws.{row-known}
+use Rattle.table.proofs.RowLaws.{row-known, length-rows}
 use Rattle.reach.specs.Reach.{mark, MarksReached}
 use Rattle.split_pair.specs.declared.Pair.{Pair}
 use Rattle.split_pair.specs.declared.Pair.the-variants.{At, Nothing}
@@ -30,18 +30,6 @@ module _ (ts : List Transition) (dist : List ℕ) where
   -- a state without a mark has no pair
   pub partner-none : (i : ℕ) → mark dist (at ts i .from) ≡ 0 → Partner ts dist i (length ts)
   partner-none i e = record { within = omega arith; pair = λ h. absurd (omega arith); least = λ y h p. omega (arith, p .marked) }
-
-  pub clear-more : (i j : ℕ) → Clear ts dist i → Partner ts dist i j → length ts ≤ j → Clear ts dist (i + 1)
-  clear-more i j clear p h = below-more (λ x. (y : ℕ) → MarkedPair ts dist x y → ⊥) i clear (λ y m. p .least y (omega (arith, m .inside)) m)
-
-  pub least-here : (i j : ℕ) → Clear ts dist i → Partner ts dist i j → j < length ts → LeastPair (MarkedPair ts dist) i j
-  least-here i j clear p h = record {
-    pair = p .pair h;
-    least = λ x y m. dite (decLt i x) inl (λ n. inr (dite (ℕ-discrete i x) (λ e. (e, after y (rw e m))) (λ o. absurd (clear x (omega arith) y m))));
-  }
-    where
-      after : (y : ℕ) → MarkedPair ts dist i y → j ≤ y
-      after y m = dite (decLt y j) (λ l. absurd (p .least y l m)) (λ n. omega arith)
 
   pub none-clear : Clear ts dist (length ts) → (i j : ℕ) → MarkedPair ts dist i j → ⊥
   none-clear clear i j m = clear i (omega (arith, m .ordered, m .inside)) j m
@@ -65,6 +53,23 @@ module _ (ts : List Transition) (dist : List ℕ) where
       forks = record { together = p .together; alike = p .alike; overlap = p .overlap };
     },
   )
+
+-- what the search at i has found, where no pair begins below i: the least pair, or that none begins at i either
+module _ (c : List ℕ) (n : ℕ) (dist : List ℕ) (i j : ℕ) where
+  abbrev pub Searched : Type 0
+  Searched = (j < n → LeastPair (MarkedPair (rows c n) dist) i j) × (n ≤ j → Clear (rows c n) dist (i + 1))
+
+  pub searched : Clear (rows c n) dist i → Partner (rows c n) dist i j → Searched
+  searched clear p = (
+    λ h. record {
+      pair = p .pair (omega (arith, length-rows c n));
+      least = λ x y m. dite (decLt i x) inl (λ n. inr (dite (ℕ-discrete i x) (λ e. (e, after y (rw e m))) (λ o. absurd (clear x (omega arith) y m))));
+    },
+    λ h. below-more (λ x. (y : ℕ) → MarkedPair (rows c n) dist x y → ⊥) i clear (λ y m. p .least y (omega (arith, m .inside, length-rows c n)) m),
+  )
+    where
+      after : (y : ℕ) → MarkedPair (rows c n) dist i y → j ≤ y
+      after y m = dite (decLt y j) (λ l. absurd (p .least y l m)) (λ n. omega arith)
 
 -- the row of i that was read
 module _ (c dist : List ℕ) (n : ℕ) (few : n ≤ 256) (i : ℕ) (known : i < n) {r : Row} (read : r ≡ rowOf c i) where

@@ -63,6 +63,12 @@ pub kept-start : (file : List ℕ) (states : ℕ) (cells : List ℕ) → 8 ≤ l
 unfolding rows
 kept-start file states cells h e = record { few = omega arith; inside = h; shape = e; same = refl }
 
+-- a transition stands at the offset, after n others
+pub record TookAfter (file : List ℕ) (n at : ℕ) (r : Row) : Type 0 where
+  pub few : n ≤ 256
+  pub inside : at + 18 ≤ length file
+  pub is : frameIn at (drop at file) ≡ Took r
+
 -- the end and a transition, as choices
 pub ended-is : (at : ℕ) (rest : List ℕ) (ts : List Transition) → ended at rest ts ≡ cond (ltb 4 (length rest)) (refused 2 (at + 4)) (found ts)
 ended-is at rest ts = by (ltb 4 (length rest))
@@ -131,6 +137,9 @@ module _ (file : List ℕ) (states : ℕ) (cells : List ℕ) (n at : ℕ) (k : K
           → RowsOutcome (rowsFrom 256 states 8 (drop 8 file) []) c cells
       by c true h q = rw q (scan ∙ rw h)
       by c false h q = rw q (scan ∙ rw h, k .shape, k .few)
+
+  pub kept-took : (r : Row) → frameIn at rest ≡ Took r → TookAfter file n at r
+  kept-took r e = record { few = k .few; inside = omega (arith, took-says at rest r e .long, length-drop at file, k .inside); is = e }
 
   -- a transition that was refused is the refusal of the whole
   pub kept-stop : (r : Row) → frameIn at rest ≡ Took r → (x : Refusal) → Refused x ≡ admitOf states at n ts (said r)

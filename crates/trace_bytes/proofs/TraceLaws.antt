@@ -13,12 +13,14 @@ use Rattle.model.proofs.Paths.{length-steps}
 use Rattle.model.proofs.StampLaws.{shown-stamps}
 use Rattle.wire.specs.Bytes.{bytes, placed, wholes}
 use Rattle.table.specs.Tests.{Test, Passes, refuses, answers}
+use Rattle.table.proofs.RefusalLaws.{refusal-some}
 use Rattle.table.proofs.TestLaws.{fails-numbered}
-use Rattle.verdict.specs.declared.OnTrace.the-variants.{Turning}
+use Rattle.verdict.specs.declared.OnTrace.{OnTrace}
+use Rattle.verdict.specs.declared.OnTrace.the-variants.{Steady, Turning, Refused}
 use Rattle.verdict.specs.OnTrace.{traceFields, traceTests, says-steady, says-turning, TraceOutcome}
 use Rattle.verdict.proofs.JudgeLaws.{own}
 use Rattle.places.specs.Places.{pathIn, fitted, handedOn, Decoded}
-use Rattle.places.proofs.PlaceLaws.{length-wholes, decoded-take, handed-whole, trace-whole, whole-trace, trace-count, back-over}
+use Rattle.places.proofs.PlaceLaws.{length-wholes, decoded-take, handed-whole, trace-whole, whole-trace, trace-count, back-over, back-none}
 use Rattle.places.proofs.AgreeLaws.{Agree, agree-passes, agree-fails, after-passes, after-fails}
 use Rattle.trace_bytes.specs.Traces.{bytesTests, TraceOnMachine}
 
@@ -83,6 +85,13 @@ module _ (m : Machine) (valid : Valid m) (trace stamps₀ s₀ : List ℕ) (room
       (says-turning {k = i} {m = j} (rw (sym (whole p), sym (count p)) e) (rw (whole p) at t)
       (q ∙ rw g (back-over 4 (2 * length nums) v (drop (length v) s₀ ++ more) stamps₀ n (omega (arith, count p, passes p .1 .0)))))
 
+  -- whatever is answered, two stamps written back for each step that it names
+  answered : (r : OnTrace) {s stamps : List ℕ} (more : List ℕ) → stamps ≡ placed stamps₀ 0 (bytes 4 (take (2 * traceFields (length nums) r .steps) (s ++ more)))
+      → TraceOutcome m nums s₀ (traceFields (length nums) r) s → TraceOnMachine m trace stamps₀ (traceFields (length trace / 2) r) stamps
+  answered Steady {s} more q = kept (omega arith) (q ∙ back-none 4 (s ++ more) stamps₀)
+  answered (Refused r) {s} more q = kept (omega (arith, refusal-some r)) (q ∙ back-none 4 (s ++ more) stamps₀)
+  answered (Turning k l) more q = turned more q
+
 -- the call on values, made with the first places of two longer lists
 module _ (m : Machine) (valid : Valid m) (trace stamps₀ steps₀ marks₀ : List ℕ) (long : (length steps₀ ≡ 512) × (length marks₀ ≡ 1024))
     {n room : ℕ} {steps : List ℕ} (decoded : Decoded 2 trace steps₀ n steps) (fits : room ≡ min (length stamps₀ / 4) 1024) where
@@ -92,13 +101,10 @@ module _ (m : Machine) (valid : Valid m) (trace stamps₀ steps₀ marks₀ : Li
   roomed : length (take room marks₀) ≡ min (length stamps₀ / 4) 1024
   roomed = simp length-take (omega arith)
 
-  pub on-kept : {f : Fields} {s : List ℕ} → f .status ≤ 255 → TraceOutcome m (take n steps) (take room marks₀) f s → TraceOnMachine m trace stamps₀ f stamps₀
-  on-kept h x = kept m valid trace stamps₀ (take room marks₀) roomed h refl (rw here at x)
-
-  pub on-turning : {k l : ℕ} {s stamps : List ℕ} (more : List ℕ)
-      → TraceOutcome m (take n steps) (take room marks₀) (traceFields (length (take n steps)) (Turning k l)) s
-      → stamps ≡ placed stamps₀ 0 (bytes 4 (take (2 * n) (s ++ more)))
-      → TraceOnMachine m trace stamps₀ (traceFields (length trace / 2) (Turning k l)) stamps
-  on-turning more x q =
+  pub on-bytes : (r : OnTrace) {k : ℕ} (s : List ℕ) {stamps : List ℕ} (more : List ℕ) → k ≡ 2 * traceFields n r .steps
+      → stamps ≡ placed stamps₀ 0 (bytes 4 (take k (s ++ more)))
+      → TraceOutcome m (take n steps) (take room marks₀) (traceFields (length (take n steps)) r) s
+      → TraceOnMachine m trace stamps₀ (traceFields (length trace / 2) r) stamps
+  on-bytes r s more e q x =
       let c : n ≡ length (handedOn 2 trace) = decoded .count ∙ ap (λ r. length (fitted r 2 trace)) (long .0) in
-      turned m valid trace stamps₀ (take room marks₀) roomed more (rw c at q) (rw here at x)
+      answered m valid trace stamps₀ (take room marks₀) roomed r more (rw (e, c) at q) (rw here at x)

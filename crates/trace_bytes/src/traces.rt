@@ -2,14 +2,26 @@
 use table::Table;
 use verdict::OnTrace;
 ghost use mathlib.Core.Path.{_≡_};
-ghost use Prim.Native.Nat.{_/_};
+ghost use Prim.Native.Nat.{_*_, _/_, _≤_};
 ghost use lib.ListN.{length};
 ghost use Rattle.model.specs.Table.{Valid};
 ghost use Rattle.table.specs.Rows.{machineOf};
 ghost use Rattle.verdict.specs.OnTrace.{traceFields};
 ghost use Rattle.trace_bytes.specs.Traces.{TraceOnMachine};
 
-// The call on values, with the trace decoded and the lent room in places, and both words written back.
+// How many stamp places a verdict on n steps uses: two for each step that it names.
+fn used(v: OnTrace, n: usize) -> usize
+    requires { ⌜ n ≤ 512 ⌝ }
+    ensures { λ k. ⌜ k ≡ 2 * traceFields n v .steps ⌝ }
+{
+    match v {
+        OnTrace::Steady => 0,
+        OnTrace::Refused(_) => 0,
+        OnTrace::Turning(_, _) => 2 * n,
+    }
+}
+
+// The call on values, with the trace decoded and the lent room in places, and the words that it shows written back.
 pub(crate) fn judge_on(
     t: Table,
     trace: &[u8],
@@ -25,12 +37,6 @@ pub(crate) fn judge_on(
     let n = places::twos_in(trace, steps);
     let room = wire::lesser(stamps.len() / 4, 1024);
     let r = verdict::judge_trace(t, &steps[..n], &mut marks[..room]);
-    match r {
-        OnTrace::Steady => OnTrace::Steady,
-        OnTrace::Refused(x) => OnTrace::Refused(x),
-        OnTrace::Turning(k, m) => {
-            places::put_back_fours(stamps, marks, 2 * n);
-            OnTrace::Turning(k, m)
-        }
-    }
+    places::put_back_fours(stamps, marks, used(r, n));
+    r
 }

@@ -1,9 +1,9 @@
 -- The verdict on a table in bytes by the call on values.
-use mathlib.Core.Path.{_≡_, refl, sym, ap, _∙_}
+use mathlib.Core.Path.{_≡_, sym, ap, _∙_}
 use mathlib.Core.List.{List, [], _∷_, _++_}
-use Prim.Native.Nat.{ℕ, _+_, _*_, _≤_}
+use Prim.Native.Nat.{ℕ, suc, _+_, _*_, _≤_}
 use native.Mathlib.Omega.{arith}
-use lib.ListN.{length, take, drop, length-append}
+use lib.ListN.{length, take, length-append}
 use Rattle.model.specs.Answers.{Fields}
 use Rattle.model.specs.Lists.{over}
 use Rattle.model.specs.Table.{Machine, Valid, at}
@@ -14,16 +14,10 @@ use Rattle.model.proofs.StampLaws.{shown-stamps, split-stamps}
 use Rattle.wire.specs.Bytes.{bytes, placed}
 use Rattle.table.specs.Tests.{Test, unless, Passes, Fails, refuses, answers}
 use Rattle.table.proofs.TestLaws.{passes-fails}
-use Rattle.table_verdict.specs.declared.OnTable.the-variants.{Split, Turning}
-use Rattle.table_verdict.specs.OnTable.{tableFields, tableTests, wordAfter, says-strict, says-split, says-turning, TableOutcome}
-use Rattle.places.proofs.PlaceLaws.{back-over}
+use Rattle.table_verdict.specs.OnTable.{tableTests, wordAfter, says-strict, says-split, says-turning, TableOutcome}
+use Rattle.places.proofs.PlaceLaws.{both-none, both-over}
 use Rattle.places.proofs.AgreeLaws.{after-fails}
-use Rattle.verdict_bytes.specs.Tables.{roomTests, TableOnMachine}
-
--- what is shown, written back from the front of what came back
-written : (w n : ℕ) (xs more came l out : List ℕ) → length xs ≡ n → n * w ≤ length l → came ≡ over xs more → out ≡ placed l 0 (bytes w (take n came))
-    → out ≡ over (bytes w xs) l
-written w n xs more came l out e h f g = g ∙ rw f (back-over w n xs (drop (length xs) more) l e h)
+use Rattle.verdict_bytes.specs.Tables.{roomTests, Used, TableOnMachine}
 
 -- the call on values with 270 and 540 places t₀ and s₀
 module _ (m : Machine) (valid : Valid m) (t₀ s₀ : List ℕ) (long : (length t₀ ≡ 270) × (length s₀ ≡ 540)) where
@@ -34,50 +28,36 @@ module _ (m : Machine) (valid : Valid m) (t₀ s₀ : List ℕ) (long : (length 
       passes-fails tests n p ((omega arith, omega arith), tt) (after-fails m valid tests n p x)
 
   -- a shown trace is not longer than the room
-  pub turning-few : {k l : ℕ} {u v : List ℕ} → TableOutcome m t₀ s₀ (tableFields (Turning k l)) u v → l ≤ 270
-  turning-few (refuses {n = n} {p = p} e x k) = absurd (never n p x)
-  turning-few (answers p (says-strict e s k)) = absurd (omega (arith, ap (λ f. f .status) e))
-  turning-few (answers p (says-split e a q)) = absurd (omega (arith, ap (λ f. f .status) e))
-  turning-few (answers p (says-turning e a q)) = omega (arith, ap (λ f. f .second) e, a .ends, a .few)
+  pub steps-few : {f : Fields} {u v : List ℕ} → TableOutcome m t₀ s₀ f u v → f .steps ≤ 270
+  steps-few (refuses {n = n} {p = p} e x k) = absurd (never n p x)
+  steps-few (answers p (says-strict e s k)) = omega (arith, ap (λ f. f .steps) e)
+  steps-few (answers p (says-split e a q)) = omega (arith, ap (λ f. f .steps) e, a .few)
+  steps-few (answers p (says-turning e a q)) = omega (arith, ap (λ f. f .steps) e, a .ends, a .few)
 
-  -- behind bytes with as much room
-  module _ (trace₀ stamps₀ : List ℕ) (room : Passes (roomTests trace₀ stamps₀)) where
-    -- what is neither split nor turning writes nothing
-    pub on-kept : {f : Fields} {u v : List ℕ} → f .status ≤ 255 → TableOutcome m t₀ s₀ f u v → TableOnMachine m trace₀ stamps₀ f trace₀ stamps₀
-    on-kept h (refuses {n = n} {p = p} e x k) = absurd (never n p x)
-    on-kept h (answers p (says-strict e s k)) = answers room (says-strict e s (refl, refl))
-    on-kept h (answers p (says-split e a q)) = absurd (omega (arith, ap (λ f. f .status) e))
-    on-kept h (answers p (says-turning e a q)) = absurd (omega (arith, ap (λ f. f .status) e))
+  -- behind bytes with as much room, the places that an answer uses written back
+  module _ (trace₀ stamps₀ : List ℕ) (room : Passes (roomTests trace₀ stamps₀)) {f : Fields} {n k : ℕ} (used : Used f n k) (u v : List ℕ)
+      {trace stamps : List ℕ} (twos : trace ≡ placed trace₀ 0 (bytes 2 (take n u))) (fours : stamps ≡ placed stamps₀ 0 (bytes 4 (take k v))) where
+    left : (l s : List ℕ) → length l ≡ n → length s ≡ k → n ≤ 270 → k ≤ 540 → (u ≡ over l t₀) × (v ≡ over s s₀)
+        → (trace ≡ over (bytes 2 l) trace₀) × (stamps ≡ over (bytes 4 s) stamps₀)
+    left l s e g few many = both-over n k u v trace₀ stamps₀ twos fours l s t₀ s₀ e g (omega (arith, room)) (omega (arith, room))
 
-    -- a split writes its trace and one stamp for each step
-    pub on-split : {i j n : ℕ} {u v trace stamps : List ℕ} → TableOutcome m t₀ s₀ (tableFields (Split i j n)) u v
-        → trace ≡ placed trace₀ 0 (bytes 2 (take n u)) → stamps ≡ placed stamps₀ 0 (bytes 4 (take n v))
-        → TableOnMachine m trace₀ stamps₀ (tableFields (Split i j n)) trace stamps
-    on-split (refuses {n = n} {p = p} e x k) f g = absurd (never n p x)
-    on-split (answers p (says-strict e s k)) f g = absurd (omega (arith, ap (λ f. f .status) e))
-    on-split {n = n} {u = u} {v = v} {trace = trace} {stamps = stamps} (answers p (says-split {i = i} {j = j} {way = way} e a q)) f g =
+    pub on-bytes : TableOutcome m t₀ s₀ f u v → TableOnMachine m trace₀ stamps₀ f trace stamps
+    on-bytes (refuses {n = i} {p = p} e x q) = absurd (never i p x)
+    on-bytes (answers p (says-strict e s q)) =
+        let c : n ≡ 0 = used .steps ∙ ap (λ x. x .steps) e in
+        let d : k ≡ n = used .one-word (omega (arith, ap (λ x. x .status) e)) in
+        answers room (says-strict e s (both-none n k u v trace₀ stamps₀ twos fours c (d ∙ c)))
+    on-bytes (answers p (says-split {i = i} {j = j} {way = way} e a q)) =
         let ts = m .transitions in
-        let c : n ≡ length way + 1 = ap (λ f. f .steps) e in
-        let one : length (way ++ (i ∷ [])) ≡ n = length-append way (i ∷ []) ∙ sym c in
-        let word : length (stampsOf (wordAfter m way i j)) ≡ n = omega (arith, split-stamps (steps ts way) (at ts i) (at ts j), length-steps ts way) in
-        answers room (says-split e a (
-          written 2 n (way ++ (i ∷ [])) t₀ u trace₀ trace one (omega (arith, a .few, room)) (q .0) f,
-          written 4 n (stampsOf (wordAfter m way i j)) s₀ v stamps₀ stamps word (omega (arith, a .few, room)) (q .1) g,
-        ))
-    on-split (answers p (says-turning e a q)) f g = absurd (omega (arith, ap (λ f. f .status) e))
-
-    -- a turning answer writes its trace and both words, two stamps for each step
-    pub on-turning : {k l : ℕ} {u v trace stamps : List ℕ} → TableOutcome m t₀ s₀ (tableFields (Turning k l)) u v
-        → trace ≡ placed trace₀ 0 (bytes 2 (take l u)) → stamps ≡ placed stamps₀ 0 (bytes 4 (take (2 * l) v))
-        → TableOnMachine m trace₀ stamps₀ (tableFields (Turning k l)) trace stamps
-    on-turning (refuses {n = n} {p = p} e x k) f g = absurd (never n p x)
-    on-turning (answers p (says-strict e s k)) f g = absurd (omega (arith, ap (λ f. f .status) e))
-    on-turning (answers p (says-split e a q)) f g = absurd (omega (arith, ap (λ f. f .status) e))
-    on-turning {l = l} {u = u} {v = v} {trace = trace} {stamps = stamps} (answers p (says-turning {shown = shown} {k = k} {last = last} e a q)) f g =
+        let c : n ≡ length way + 1 = used .steps ∙ ap (λ x. x .steps) e in
+        let d : k ≡ n = used .one-word (omega (arith, ap (λ x. x .status) e)) in
+        let word : length (stampsOf (wordAfter m way i j)) ≡ k = omega (arith, split-stamps (steps ts way) (at ts i) (at ts j), length-steps ts way) in
+        let few : n ≤ 270 = omega (arith, a .few) in
+        answers room (says-split e a (left (way ++ (i ∷ [])) _ (length-append way (i ∷ []) ∙ sym c) word few (omega arith) q))
+    on-bytes (answers p (says-turning {shown = shown} {k = i} {last = last} e a q)) =
         let tr = steps (m .transitions) shown in
-        let one : length shown ≡ l = a .ends ∙ sym (ap (λ f. f .second) e) in
-        let words : length (shownStamps tr k last) ≡ 2 * l = omega (arith, shown-stamps tr k last, length-steps (m .transitions) shown) in
-        answers room (says-turning e a (
-          written 2 l shown t₀ u trace₀ trace one (omega (arith, a .few, room)) (q .0) f,
-          written 4 (2 * l) (shownStamps tr k last) s₀ v stamps₀ stamps words (omega (arith, a .few, room)) (q .1) g,
-        ))
+        let c : n ≡ suc last = used .steps ∙ ap (λ x. x .steps) e in
+        let d : k ≡ 2 * n = used .two-words (ap (λ x. x .status) e) in
+        let words : length (shownStamps tr i last) ≡ k = omega (arith, shown-stamps tr i last, length-steps (m .transitions) shown, a .ends) in
+        let few : n ≤ 270 = omega (arith, a .few, a .ends) in
+        answers room (says-turning e a (left shown _ (a .ends ∙ sym c) words few (omega arith) q))

@@ -3,11 +3,42 @@ use table::Cells;
 use table::Refusal;
 use table_verdict::OnTable;
 ghost use mathlib.Core.Path.{_≡_};
+ghost use Prim.Native.Nat.{_≤_};
 ghost use lib.ListN.{length};
 ghost use Rattle.model.specs.Table.{Valid};
 ghost use Rattle.table.specs.Rows.{machineOf, tableIn};
 ghost use Rattle.table_verdict.specs.OnTable.{tableFields};
-ghost use Rattle.verdict_bytes.specs.Tables.{TableOnMachine};
+ghost use Rattle.verdict_bytes.specs.Tables.{TableOnMachine, Used};
+
+// How many trace places and stamp places a verdict uses.
+pub(crate) struct Places {
+    pub steps: usize,
+    pub stamps: usize,
+}
+
+fn used(v: OnTable) -> Places
+    requires { ⌜ tableFields v .steps ≤ 270 ⌝ }
+    ensures { λ p. ⌜ Used (tableFields v) (p .steps) (p .stamps) ⌝ }
+{
+    match v {
+        OnTable::Strict => Places {
+            steps: 0,
+            stamps: 0,
+        },
+        OnTable::Refused(_) => Places {
+            steps: 0,
+            stamps: 0,
+        },
+        OnTable::Split(_, _, n) => Places {
+            steps: n,
+            stamps: n,
+        },
+        OnTable::Turning(_, m) => Places {
+            steps: m,
+            stamps: 2 * m,
+        },
+    }
+}
 
 // Tests the room, makes the call on values, and writes the used places back.
 pub(crate) fn judge_on(
@@ -32,18 +63,8 @@ pub(crate) fn judge_on(
         return OnTable::Refused(Refusal::NoRoom);
     }
     let r = table_verdict::judge_parts(states, initial, count, cells, steps, marks);
-    match r {
-        OnTable::Strict => OnTable::Strict,
-        OnTable::Refused(x) => OnTable::Refused(x),
-        OnTable::Split(i, j, n) => {
-            places::put_back_twos(trace, steps, n);
-            places::put_back_fours(stamps, marks, n);
-            OnTable::Split(i, j, n)
-        }
-        OnTable::Turning(k, m) => {
-            places::put_back_twos(trace, steps, m);
-            places::put_back_fours(stamps, marks, 2 * m);
-            OnTable::Turning(k, m)
-        }
-    }
+    let u = used(r);
+    places::put_back_twos(trace, steps, u.steps);
+    places::put_back_fours(stamps, marks, u.stamps);
+    r
 }

@@ -16,7 +16,7 @@ use Rattle.model.specs.Criterion.{slack, TurnsTo}
 use Rattle.model.proofs.Lists.{all-at}
 use Rattle.model.proofs.CriterionLaws.{above-less, above-bound, below-more, slack-fits, slack-small}
 use Rattle.walks.specs.Walks.{Seen, Walk, ShownWalk}
-use Rattle.walks.specs.Best.{cell, Exact, Filled, Sized, Closes, ReadyFor, Deeper, Explains, Explained, LeastRow, Stands, Back, EndSum, Went}
+use Rattle.walks.specs.Best.{cell, Exact, Filled, Roomy, Closes, ReadyFor, Deeper, Explains, Explained, LeastRow, Stands, Back, EndSum, Went}
 use Rattle.walks.proofs.WalkLaws.{sum-last, trace-last, Last, walk-none, walk-wide, walk-on, walk-last, walk-zero}
 use Rattle.walks.proofs.BestLaws.{filled-less}
 use Rattle.walks.proofs.EndLaws.{turns-by, turns-closes}
@@ -80,13 +80,13 @@ module _ {ts : List Transition} {s : ℕ} {best : List ℕ} where
     last-sum : (b : ℕ) → cell best a e ≡ suc b → (w : Last ts s e a b) → Explains ts best e a (w .j)
     last-sum b q w =
         let j = w .j in
-        let f = all-at none (p .sized .fine) j (w .known) in
+        let f = all-at none (p .roomy .fine) j (w .known) in
         let r = row-of (a - at ts j .u) (omega arith) in
         let m = r .most (at ts j .from) (w .late) (f .leaves) (w .before) in
         let x : ℕ = cell best (a - at ts j .u) (at ts j .from) - 1 in
         let y : cell best (a - at ts j .u) (at ts j .from) ≡ suc x = omega arith in
         let n : a - at ts j .u + at ts j .u ≡ a = omega (arith, w .low) in
-        let g = rw (n, w .to) at (cell-goes j (a - at ts j .u) x (w .known) (p .sized .fine) r (rw n (row-of a (omega arith))) y) in
+        let g = rw (n, w .to) at (cell-goes j (a - at ts j .u) x (w .known) (p .roomy .fine) r (rw n (row-of a (omega arith))) y) in
         record { to = w .to; left = a - at ts j .u; whole = sym n; some = omega arith; sum = omega (arith, w .sum) }
 
     -- some transition explains the number of a row that is not the first
@@ -99,7 +99,7 @@ module _ {ts : List Transition} {s : ℕ} {best : List ℕ} where
         let m = row-of (a - 1) (omega arith) .most e 0 (p .state) (walk-none (z .0)) in
         let g = cell-grows (a - 1) a e (row-of (a - 1) (omega arith)) (row-of a (omega arith)) (omega arith) (p .state) in
         absurd (p .least (a - 1) (omega arith) (omega (arith, z .1))))
-        (λ w. record { j = w .j; known = w .known; last = last-sum b q w })
+        (λ w. record { x = w .j; known = w .known; holds = last-sum b q w })
         (walk-last (stands-walk b q))
 
     -- row 0 is the start
@@ -107,7 +107,7 @@ module _ {ts : List Transition} {s : ℕ} {best : List ℕ} where
     stands-start z =
         let b : ℕ = cell best a e - 1 in
         let q : cell best a e ≡ suc b = omega (arith, p .some) in
-        let w = walk-zero (p .sized .fine) z (stands-walk b q) in
+        let w = walk-zero (p .roomy .fine) z (stands-walk b q) in
         (w .0, omega (arith, w .1))
 
     -- one step back
@@ -118,15 +118,15 @@ module _ {ts : List Transition} {s : ℕ} {best : List ℕ} where
           let y : ℕ = cell best b (at ts j .from) - 1 in
           let n : cell best b (at ts j .from) ≡ suc y = omega (arith, x .some) in
           let d : c < a = omega (arith, x .whole) in
-          let g = rw (x .to) at (cell-goes j b y h (p .sized .fine) (row-of b (omega arith)) (row-of c (omega arith)) n) in
+          let g = rw (x .to) at (cell-goes j b y h (p .roomy .fine) (row-of b (omega arith)) (row-of c (omega arith)) n) in
           let m = cell-grows c a e (row-of c (omega arith)) (row-of a (omega arith)) (omega arith) (p .state) in
           p .least c d (omega (arith, x .sum))
 
       stands-on : Stands ts s best (at ts j .from) (x .left)
       stands-on =
-          let f = all-at none (p .sized .fine) j h in
+          let f = all-at none (p .roomy .fine) j h in
           record {
-            sized = p .sized;
+            roomy = p .roomy;
             filled = filled-less (omega (arith, x .whole)) (p .filled);
             state = f .leaves;
             high = omega (arith, p .high, x .whole);
@@ -186,6 +186,10 @@ module _ {ts : List Transition} {s : ℕ} {best : List ℕ} where
     pub step-falls : t .u ≤ sum
     step-falls = let h : at ts j .u ≤ sum = omega (arith, p .whole) in rw (z .here) at h
 
+    -- so there is a place for it behind the walk before it
+    pub step-less : {n : ℕ} → n ≤ sum - t .u → n < sum
+    step-less h = omega (arith, step-falls, z .fine .low)
+
     pub back-stands : Stands ts s best (t .from) (sum - t .u)
     back-stands = rw (z .here) at stands-here
 
@@ -204,10 +208,10 @@ module _ {ts : List Transition} {s : ℕ} {best : List ℕ} where
 
 -- the rows that are made for a transition
 pub show-ready : {ts : List Transition} {k n top : ℕ} {best : List ℕ} {first : Transition} → Seen ts k first → length ts ≡ n → Deeper ts k 0 n top
-    → Sized ts (first .to) best → Filled ts (first .to) best (top + 1) → ReadyFor ts k best
+    → Roomy ts (first .to) best → Filled ts (first .to) best (top + 1) → ReadyFor ts k best
 show-ready {top = top} z len d s f =
     rw (z .here) (record {
-      sized = s;
+      roomy = s;
       depth = top + 1;
       filled = f;
       covers = λ m h. omega (arith, d .covers m (omega arith));
@@ -221,15 +225,15 @@ module _ {ts : List Transition} {k m : ℕ} {best : List ℕ} (z : ReadyFor ts k
 
   module _ {a : ℕ} (l : LeastRow best (at ts m .from) (slack (at ts k) (at ts m)) a) where
     fk : InRange 32 (at ts k)
-    fk = all-at none (z .sized .fine) k (df .known)
+    fk = all-at none (z .roomy .fine) k (df .known)
 
     fm : InRange 32 (at ts m)
-    fm = all-at none (z .sized .fine) m (dl .known)
+    fm = all-at none (z .roomy .fine) m (dl .known)
 
     end-stands : Stands ts (at ts k .to) best (at ts m .from) a
     end-stands =
         record {
-          sized = z .sized;
+          roomy = z .roomy;
           filled = filled-less (omega (arith, l .within, z .covers m (dl .known))) (z .filled);
           state = fm .leaves;
           high = omega (arith, l .within, slack-small (at ts k) (at ts m) fk fm);

@@ -15,11 +15,11 @@ use Rattle.model.proofs.Lists.{all-at}
 use Rattle.table.specs.Rows.{rows}
 use Rattle.table.specs.Fit.{Sound}
 use Rattle.walks.specs.Walks.{Seen, Walk}
-use Rattle.walks.specs.Best.{cell, Exact, Filled, Sized, Making, Copied, Zeros, First}
+use Rattle.walks.specs.Best.{cell, Exact, Filled, Roomy, Making, Copied, Zeros, First}
 use Rattle.walks.proofs.WalkLaws.{late-top, Last, walk-none, walk-wide, walk-on, walk-last, walk-small, walk-zero}
 
-pub sized : {c : List ℕ} {n s : ℕ} {best : List ℕ} → Sound c n → s < 32 → length best ≡ 7648 → Sized (rows c n) s best
-sized z h l = record { fine = z .ranged; start = h; size = l }
+pub roomy : {c : List ℕ} {n s : ℕ} {best : List ℕ} → Sound c n → s < 32 → length best ≡ 7648 → Roomy (rows c n) s best
+roomy z h l = record { fine = z .ranged; start = h; size = l }
 
 -- a store in row a at state t
 module _ (best : List ℕ) (a t y : ℕ) (room : a * 32 + t < length best) where
@@ -66,13 +66,13 @@ module _ {ts : List Transition} {s : ℕ} where
         (b : ℕ) → a ≡ b + at ts j .u → 1 ≤ cell l b (at ts j .from) → cell l b (at ts j .from) + lateGap (at ts j) ≤ cell l a (at ts j .to)
 
     fine-at : (j : ℕ) → j < length ts → InRange 32 (at ts j)
-    fine-at = all-at none (m .sized .fine)
+    fine-at = all-at none (m .roomy .fine)
 
     -- a transition that has nothing to add
     making-stay : Goes best i → Making ts s best a (i + 1)
     making-stay g =
         record {
-          sized = m .sized;
+          roomy = m .roomy;
           low = m .low;
           high = m .high;
           done = m .done;
@@ -93,7 +93,7 @@ module _ {ts : List Transition} {s : ℕ} where
       out = set best (a * 32 + at ts i .to) val
 
       fits : a * 32 + at ts i .to < length best
-      fits = omega (arith, fine-at i h .arrives, m .high, m .sized .size)
+      fits = omega (arith, fine-at i h .arrives, m .high, m .roomy .size)
 
       grown : (e : ℕ) → cell best a e ≤ cell out a e
       grown = put-up best a (at ts i .to) val fits (omega arith)
@@ -134,7 +134,7 @@ module _ {ts : List Transition} {s : ℕ} where
       making-put : Making ts s out a (i + 1)
       making-put =
           record {
-            sized = record { fine = m .sized .fine; start = m .sized .start; size = simp length-set (m .sized .size) };
+            roomy = record { fine = m .roomy .fine; start = m .roomy .start; size = simp length-set (m .roomy .size) };
             low = m .low;
             high = m .high;
             done = record { row = λ b k. exact-same (λ e q. below b e k q) (m .done .row b k) };
@@ -154,7 +154,7 @@ module _ {ts : List Transition} {s : ℕ} where
       from-small h =
           let f = z .fine in
           let r = m .done .row (a - t .u) (omega arith) in
-          omega (arith, cell-small best (a - t .u) (t .from) (m .sized .fine) r (f .leaves), late-top f, m .high)
+          omega (arith, cell-small best (a - t .u) (t .from) (m .roomy .fine) r (f .leaves), late-top f, m .high)
 
       pub skip-none : cell best (a - t .u) (t .from) ≡ 0 → Making ts s best a (i + 1)
       skip-none h = making-stay (rw (z .here) (λ b q p. let e : b ≡ a - t .u = omega arith in absurd (let x = rw e at p in omega arith)))
@@ -170,7 +170,7 @@ module _ {ts : List Transition} {s : ℕ} where
   module _ {best : List ℕ} {a : ℕ} (m : Making ts s best a (length ts)) where
     last-less : {e b : ℕ} → Last ts s e a b → b < cell best a e
     last-less w =
-        let f = all-at none (m .sized .fine) (w .j) (w .known) in
+        let f = all-at none (m .roomy .fine) (w .j) (w .known) in
         let p = m .done .row (a - at ts (w .j) .u) (omega (arith, m .low)) .most (at ts (w .j) .from) (w .late) (f .leaves) (w .before) in
         let g = m .part .goes (w .j) (a - at ts (w .j) .u) (w .known) (omega (arith, w .low)) (omega arith) in
         rw (← w .to) (omega (arith, w .sum))
@@ -197,7 +197,7 @@ module _ {ts : List Transition} {s : ℕ} where
   making-end q m = filled-more (rw q at m)
 
   -- a row that is a copy of the one before is in the making
-  module _ {old best : List ℕ} {p : ℕ} (z : Sized ts s best) (h : p < 238) (f : Filled ts s old (p + 1)) (d : Copied old best p 32) where
+  module _ {old best : List ℕ} {p : ℕ} (z : Roomy ts s best) (h : p < 238) (f : Filled ts s old (p + 1)) (d : Copied old best p 32) where
     copy-old : (a e : ℕ) → a < p + 1 → e < 32 → cell best a e ≡ cell old a e
     copy-old a e k l = d .same (a * 32 + e) (omega arith)
 
@@ -208,7 +208,7 @@ module _ {ts : List Transition} {s : ℕ} where
     making-none =
         let r = f .row p (omega arith) in
         record {
-          sized = z;
+          roomy = z;
           low = omega arith;
           high = omega arith;
           done = record { row = λ a k. exact-same (λ e l. copy-old a e k l) (f .row a k) };

@@ -1,6 +1,6 @@
 -- Laws of the ends of a turning pair, and of the lowest transition that starts one.
 use mathlib.Core.Path.{_≡_, refl}
-use mathlib.Core.Logic.{⊎-elim}
+use mathlib.Core.Logic.{⊎-elim, _↔_}
 use mathlib.Core.List.{List, [], _∷_}
 use Prim.Native.Nat.{ℕ, _+_, _-_, _≤_, _<_}
 use native.Mathlib.Nat.{eq-or-lt-of-le}
@@ -19,8 +19,8 @@ use Rattle.model.proofs.Paths.{trace-split}
 use Rattle.model.proofs.CriterionLaws.{above-less, below-more as below-later, slack-fits, slack-most, slack-small}
 use Rattle.walks.specs.declared.Found.{Found}
 use Rattle.walks.specs.declared.Found.the-variants.{At, Nothing}
-use Rattle.walks.specs.Walks.{Seen, Walk, Arrives, StartsAt, Starts, Least, LeastBelow}
-use Rattle.walks.specs.Best.{cell, Filled, Sized, Closes, ReadyFor, ReadyAt, Deeper, Deep}
+use Rattle.walks.specs.Walks.{Seen, Walk, Arrives, StartsAt, Starts, Least, LeastBelow, Among}
+use Rattle.walks.specs.Best.{cell, Filled, Roomy, Closes, ReadyFor, ReadyAt, Deeper, Deep}
 use Rattle.walks.proofs.Found.{the-type}
 use Rattle.walks.proofs.WalkLaws.{sum-last, trace-last}
 use Rattle.walks.proofs.BestLaws.{cell-small}
@@ -70,7 +70,7 @@ module _ {ts : List Transition} (k : ℕ) {best : List ℕ} (z : ReadyFor ts k b
 
   closes-turns : m < length ts → Closes (at ts k) (at ts m) (cell best a (at ts m .from)) → TurnsTo ts k m
   closes-turns h p =
-      let f = all-at none (z .sized .fine) m h in
+      let f = all-at none (z .roomy .fine) m h in
       let w : Walk ts (at ts k .to) (at ts m .from) a (p .late) = z .filled .row a (z .covers m h) .real (at ts m .from) (p .late) (f .leaves) (p .some) in
       turns-by (w .way) h (w .path)
       (above-less (at ts k) (at ts m) _ _ (slack-fits (at ts k) (at ts m) (p .crosses .above)) (omega (arith, w .fits)))
@@ -79,7 +79,7 @@ module _ {ts : List Transition} (k : ℕ) {best : List ℕ} (z : ReadyFor ts k b
   pub turns-closes : TurnsTo ts k m → Closes (at ts k) (at ts m) (cell best a (at ts m .from))
   turns-closes t =
       let h = turns-known t in
-      let f = all-at none (z .sized .fine) m h in
+      let f = all-at none (z .roomy .fine) m h in
       let b : ℕ = lateSum (steps ts (t .rest)) in
       let o = slack-most (at ts k) (at ts m) (span (steps ts (t .rest)) .u) (turns-above t _ (omega arith)) in
       let w : Walk ts (at ts k .to) (at ts m .from) a b = record { way = t .rest; path = turns-rest t; fits = o; late = refl } in
@@ -94,27 +94,24 @@ module _ {ts : List Transition} (k : ℕ) {best : List ℕ} (z : ReadyFor ts k b
       }
 
   -- with the transitions and the numbers that the code has read
-  module _ {first last : Transition} (df : Seen ts k first) (dl : Seen ts m last) {row x : ℕ} (dr : row ≡ slack first last)
-      (dx : x ≡ cell best row (last .from)) where
-    number-is : x ≡ cell best a (at ts m .from)
-    number-is = rw (df .here, dl .here) (rw dr at dx)
+  module _ {first last : Transition} (df : Seen ts k first) (dl : Seen ts m last) {row : ℕ} (dr : row ≡ slack first last) where
+    -- the number's place
+    pub number-there : (length best ≡ 7648) × (row ≤ 238) × (last .from < 32)
+    number-there = (z .roomy .size, omega (arith, slack-small first last (df .fine) (dl .fine)), dl .fine .leaves)
 
-    pub end-found : Closes first last x → TurnsTo ts k m
-    end-found p =
-        let q : Closes (at ts k) (at ts m) x = rw (df .here, dl .here) p in
-        closes-turns (dl .known) (rw number-is at q)
+    module _ {x : ℕ} (dx : x ≡ cell best row (last .from)) where
+      number-is : x ≡ cell best a (at ts m .from)
+      number-is = rw (df .here, dl .here) (rw dr at dx)
 
-    pub end-not : (Closes first last x → ⊥) → TurnsTo ts k m → ⊥
-    end-not o t =
-        let q : Closes (at ts k) (at ts m) x = rw number-is (turns-closes t) in
-        o (rw (df .here, dl .here) at q)
+      pub end-law : Closes first last x ↔ TurnsTo ts k m
+      end-law = rw (← df .here, ← dl .here, number-is) (closes-turns (dl .known), turns-closes)
 
-    pub number-small : x < 4278190080
-    number-small =
-        let f = all-at none (z .sized .fine) m (dl .known) in
-        let s = cell-small best a (at ts m .from) (z .sized .fine) (z .filled .row a (z .covers m (dl .known))) (f .leaves) in
-        let l = slack-small (at ts k) (at ts m) (all-at none (z .sized .fine) k (df .known)) f in
-        omega (arith, number-is)
+      pub number-small : x < 4278190080
+      number-small =
+          let f = all-at none (z .roomy .fine) m (dl .known) in
+          let s = cell-small best a (at ts m .from) (z .roomy .fine) (z .filled .row a (z .covers m (dl .known))) (f .leaves) in
+          let l = slack-small (at ts k) (at ts m) (all-at none (z .roomy .fine) k (df .known)) f in
+          omega (arith, number-is)
 
 -- the tests of an arrival, with the transition that the code has read
 module _ {ts : List Transition} {dist : List ℕ} {s k : ℕ} {t : Transition} (z : Seen ts k t) where
@@ -142,6 +139,14 @@ module _ {P : ℕ → Type 0} where
 
   pub below-end : {n i : ℕ} → i ≡ n → ((x : ℕ) → x < i → P x → ⊥) → LeastBelow P n i
   below-end q b = record { within = omega arith; found = λ h. absurd (omega arith); before = b }
+
+-- a loop that looks for some transition of which P holds
+module _ {P : ℕ → Type 0} {l n : ℕ} (len : l ≡ n) where
+  pub among-at : {k : ℕ} → k < n → P k → Among P l
+  among-at {k} h p = record { x = k; known = omega arith; holds = p }
+
+  pub among-none : {i : ℕ} → n ≤ i → ((x : ℕ) → x < i → P x → ⊥) → Among P l → ⊥
+  among-none h b p = b (p .x) (omega (arith, p .known)) (p .holds)
 
 -- the rows that are asked for
 module _ {ts : List Transition} where
@@ -178,9 +183,9 @@ module _ {ts : List Transition} where
         })
 
     -- they are enough
-    pub ready-at : {low top : ℕ} {best : List ℕ} → Deep ts dist s low top → Sized ts s best → Filled ts s best (top + 1) → ReadyAt ts dist s low best
+    pub ready-at : {low top : ℕ} {best : List ℕ} → Deep ts dist s low top → Roomy ts s best → Filled ts s best (top + 1) → ReadyAt ts dist s low best
     ready-at {top = top} d z f =
-        record { ready = λ k under p. record { sized = z; depth = top + 1; filled = f; covers = λ m h. omega (arith, d .covers k under p m h) } }
+        record { ready = λ k under p. record { roomy = z; depth = top + 1; filled = f; covers = λ m h. omega (arith, d .covers k under p m h) } }
 
 pub ready-less : {ts : List Transition} {dist best : List ℕ} {s n m : ℕ} → m ≤ n → ReadyAt ts dist s n best → ReadyAt ts dist s m best
 ready-less h z = record { ready = λ k under. z .ready k (omega arith) }
@@ -220,9 +225,9 @@ module _ {ts : List Transition} {dist : List ℕ} where
             (eq-or-lt-of-le (omega (arith, p .0)));
       }
 
-  module _ (fine : All (InRange 32) ts) {n low : ℕ} (len : length ts ≡ n) (a : LeastBelow (StartsUnder ts dist 32) n low) where
-    under : (k : ℕ) → Starts ts dist k → StartsUnder ts dist 32 k
-    under k p = (all-at none fine k (p .arrives .known) .arrives, p)
+  module _ (fine : All (InRange 32) ts) {n s low : ℕ} (len : length ts ≡ n) (all : 32 ≤ s) (a : LeastBelow (StartsUnder ts dist s) n low) where
+    under : (k : ℕ) → Starts ts dist k → StartsUnder ts dist s k
+    under k p = (omega (arith, all-at none fine k (p .arrives .known) .arrives), p)
 
     pub lowest-at : low < n → Least (Starts ts dist) (At low)
     lowest-at h = (a .found h .1, λ x l p. a .before x l (under x p))

@@ -9,7 +9,7 @@ use Rattle.model.specs.Trace.{Trace, steps}
 use Rattle.model.specs.Span.{span, lateSum}
 use Rattle.model.specs.Shown.{lateGap}
 use Rattle.model.specs.Criterion.{Crosses, slack}
-use Rattle.walks.specs.Walks.{Walk, Arrives}
+use Rattle.walks.specs.Walks.{Walk, Arrives, Among}
 
 -- the number in row a at state e
 abbrev pub cell : List ℕ → ℕ → ℕ → ℕ
@@ -32,13 +32,13 @@ pub record Part (ts : List Transition) (s : ℕ) (best : List ℕ) (a i : ℕ) :
       → cell best b (at ts j .from) + lateGap (at ts j) ≤ cell best a (at ts j .to)
 
 -- room for the numbers of walks from s: 239 rows of 32
-pub record Sized (ts : List Transition) (s : ℕ) (best : List ℕ) : Type 0 where
+pub record Roomy (ts : List Transition) (s : ℕ) (best : List ℕ) : Type 0 where
   pub fine : All (InRange 32) ts
   pub start : s < 32
   pub size : length best ≡ 7648
 
 pub record Making (ts : List Transition) (s : ℕ) (best : List ℕ) (a i : ℕ) : Type 0 where
-  pub sized : Sized ts s best
+  pub roomy : Roomy ts s best
   pub low : 1 ≤ a
   pub high : a ≤ 238
   pub done : Filled ts s best a
@@ -66,7 +66,7 @@ pub record Closes (k m : Transition) (number : ℕ) : Type 0 where
 
 -- rows enough for every end of a pair whose first step k arrives in s
 pub record Ready (ts : List Transition) (s k : ℕ) (best : List ℕ) : Type 0 where
-  pub sized : Sized ts s best
+  pub roomy : Roomy ts s best
   pub depth : ℕ
   pub filled : Filled ts s best depth
   pub covers : (m : ℕ) → m < length ts → slack (at ts k) (at ts m) < depth
@@ -98,10 +98,8 @@ pub record Explains (ts : List Transition) (best : List ℕ) (e a j : ℕ) : Typ
   pub some : 1 ≤ cell best left (at ts j .from)
   pub sum : cell best left (at ts j .from) + lateGap (at ts j) ≡ cell best a e
 
-pub record Explained (ts : List Transition) (best : List ℕ) (e a : ℕ) : Type 0 where
-  pub j : ℕ
-  pub known : j < length ts
-  pub last : Explains ts best e a j
+abbrev pub Explained : List Transition → List ℕ → ℕ → ℕ → Type 0
+Explained ts best e a = Among (Explains ts best e a) (length ts)
 
 -- a is the least row that has state e's number of row top
 pub record LeastRow (best : List ℕ) (e top a : ℕ) : Type 0 where
@@ -111,7 +109,7 @@ pub record LeastRow (best : List ℕ) (e top a : ℕ) : Type 0 where
 
 -- row a has a number at e that no row before it has: its walks have the sum a of u
 pub record Stands (ts : List Transition) (s : ℕ) (best : List ℕ) (e a : ℕ) : Type 0 where
-  pub sized : Sized ts s best
+  pub roomy : Roomy ts s best
   pub filled : Filled ts s best (a + 1)
   pub state : e < 32
   pub high : a ≤ 238

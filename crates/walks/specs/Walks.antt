@@ -61,6 +61,12 @@ pub record LeastBelow (P : ℕ → Type 0) (n r : ℕ) : Type 0 where
   pub found : r < n → P r
   pub before : (x : ℕ) → x < r → P x → ⊥
 
+-- some number below n of which P holds
+pub record Among (P : ℕ → Type 0) (n : ℕ) : Type 0 where
+  pub x : ℕ
+  pub known : x < n
+  pub holds : P x
+
 -- from place p on stand k, a walk and m, n steps in all; the other places are as in old
 pub record ShownWalk (ts : List Transition) (k m p : ℕ) (old out : List ℕ) (n : ℕ) : Type 0 where
   pub turns : TurnsTo ts k m

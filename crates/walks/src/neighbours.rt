@@ -4,6 +4,7 @@ use table::Row;
 use table::row_of;
 ghost use Prim.Native.Nat.{_<_, _≤_};
 ghost use Rattle.model.specs.Answers.{Tells};
+ghost use Rattle.model.specs.Table.{at};
 ghost use Rattle.table.specs.Rows.{rows, said};
 ghost use Rattle.walks.specs.Neighbours.{OvertakesNext, Overtaken, AnyOvertaken};
 
@@ -20,15 +21,22 @@ fn overtakes(k: Row, m: Row) -> bool
     true
 }
 
+// Whether transition m can follow transition k and overtake it.
+fn overtakes_at(cells: &Cells, count: usize, k: usize, m: usize) -> bool
+    requires { ⌜ (count ≤ 256) × (k < count) × (m < count) ⌝ }
+    ensures { λ r. ⌜ Tells r (OvertakesNext (at (rows (now (cells .entry)) count) k) (at (rows (now (cells .entry)) count) m)) ⌝ }
+{
+    overtakes(row_of(cells, k), row_of(cells, m))
+}
+
 // Whether some transition can follow k and overtake it.
 fn overtaken(cells: &Cells, count: usize, k: usize) -> bool
     requires { ⌜ (count ≤ 256) × (k < count) ⌝ }
     ensures { λ r. ⌜ Tells r (Overtaken (rows (now (cells .entry)) count) k) ⌝ }
 {
-    let first = row_of(cells, k);
     let mut m: usize = 0;
     while m < count {
-        if overtakes(first, row_of(cells, m)) {
+        if overtakes_at(cells, count, k, m) {
             return true;
         }
         m += 1;

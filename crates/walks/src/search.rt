@@ -7,7 +7,7 @@ use table::Cells;
 use table::Row;
 ghost use mathlib.Core.Path.{_≡_};
 ghost use Prim.Native.Nat.{_+_, _<_, _≤_};
-ghost use lib.ListN.{length, getD};
+ghost use lib.ListN.{length};
 ghost use Rattle.model.specs.Answers.{Tells};
 ghost use Rattle.model.specs.Criterion.{TurnsTo};
 ghost use Rattle.table.specs.Fit.{Sound};
@@ -34,21 +34,29 @@ fn closes(first: Row, last: Row, number: u32) -> bool
     true
 }
 
+// Whether m ends a turning pair whose first step is k.
+fn ends_at(cells: &Cells, count: usize, best: &[u32], k: usize, m: usize) -> bool
+    requires { ⌜ Sound (now cells) count × (k < count) × (m < count) × ReadyFor (rows (now cells) count) k (now best) ⌝ }
+    ensures { λ r. ⌜ Tells r (TurnsTo (rows (now (cells .entry)) count) k m) ⌝ }
+{
+    let first = row(cells, count, k);
+    let last = row(cells, count, m);
+    let x = number(
+        best,
+        criterion::most_before(first, last),
+        last.from as usize,
+    );
+    closes(first, last, x)
+}
+
 // The least transition that ends a turning pair whose first step is k.
 pub(crate) fn ends(cells: &Cells, count: usize, best: &[u32], k: usize) -> Found
     requires { ⌜ Sound (now cells) count × (k < count) × ReadyFor (rows (now cells) count) k (now best) ⌝ }
     ensures { λ r. ⌜ Least (TurnsTo (rows (now (cells .entry)) count) k) r ⌝ }
 {
-    let first = row(cells, count, k);
     let mut m: usize = 0;
     while m < count {
-        let last = row(cells, count, m);
-        let x = number(
-            best,
-            criterion::most_before(first, last),
-            last.from as usize,
-        );
-        if closes(first, last, x) {
+        if ends_at(cells, count, best, k, m) {
             return Found::At(m);
         }
         m += 1;
@@ -74,14 +82,6 @@ pub(crate) fn deeper(cells: &Cells, count: usize, k: usize, top: usize) -> usize
     deep
 }
 
-// The mark of a state; past the 32nd stands none.
-fn mark(dist: &[u16; 32], s: usize) -> u16
-    ensures { λ r. ⌜ r ≡ getD (now (dist .entry)) s 0 ⌝ }
-{
-    let marks: &[u16] = dist;
-    if s < marks.len() { marks[s] } else { 0 }
-}
-
 // Whether transition k arrives in s and leaves a marked state.
 fn arrives(cells: &Cells, count: usize, dist: &[u16; 32], s: usize, k: usize) -> bool
     requires { ⌜ Sound (now cells) count × (k < count) ⌝ }
@@ -91,7 +91,7 @@ fn arrives(cells: &Cells, count: usize, dist: &[u16; 32], s: usize, k: usize) ->
     if r.to as usize != s {
         return false;
     }
-    if mark(dist, r.from as usize) == 0 {
+    if reach::mark_of(dist, r.from) == 0 {
         return false;
     }
     true

@@ -12,9 +12,7 @@ enum-known-read c = search needs
 
 returns : tie.Need-returns
 returns c =
-    let p = c .before .before .before in
-    let l = p .before .before .before .before .before .before .args .file .now in
-    rw (refused-stopped l (p .read-table .result) (p .read-table .ensures) _ (c .before .read .given .1)) (refl, refl, refl)
+    rw (refused-stopped _ _ (c .before .before .before .read-table .ensures) _ (c .before .read .given .1)) (refl, refl, refl)
 
 enum-told : tie.Need-enum-told
 enum-told c = search needs
@@ -23,9 +21,7 @@ replay-on-requires : tie.Need-replay-on-requires
 replay-on-requires c κs =
     let e = c .before .before in
     let p = e .before .before in
-    let k = p .before .before .before .before .before in
-    let l = k .before .args .file .now in
-    read-valid l (p .read-table .result) (p .read-table .ensures) (e .enum-told .given .1) (λ i. k .shared-slice-known .given i .fits)
+    read-valid _ _ (p .read-table .ensures) (e .enum-told .given .1) (λ i. p .before .before .before .before .before .shared-slice-known .given i .fits)
 
 same-length : tie.Need-same-length
 same-length c = search needs
@@ -36,9 +32,7 @@ same-length-2 c = search needs
 returns-2 : tie.Need-returns-2
 returns-2 c =
     let e = c .before .before .before .before .before .before .before in
-    let p = e .before .before in
-    let l = p .before .before .before .before .before .before .args .file .now in
-    rw (sound-read l (p .read-table .result) (p .read-table .ensures) (e .enum-told .given .1)) (c .before .before .before .before .replay-on .ensures)
+    rw (sound-read _ _ (e .before .before .read-table .ensures) (e .enum-told .given .1)) (c .before .before .before .before .replay-on .ensures)
 
 pub replay-bytes-spec : {M : Type 1} → statement M
 replay-bytes-spec =

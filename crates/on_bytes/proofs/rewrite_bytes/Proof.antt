@@ -1,6 +1,5 @@
 use borrow.Author.Needs.{needs}
 use mathlib.Core.Path.{refl}
-use Rattle.wire.specs.Bytes.{Bytes}
 use Rattle.places.proofs.ReadingLaws.{refused-stopped, sound-read}
 use Rattle.on_bytes.proofs.RewriteLaws.{rewritten}
 use Rattle.on_bytes.proofs.rewrite_bytes.Statement.{statement}
@@ -14,9 +13,7 @@ enum-known-read c = search needs
 
 returns : tie.Need-returns
 returns c =
-    let p = c .before .before .before in
-    let l = p .before .before .before .args .file .now in
-    rw (refused-stopped l (p .read-table .result) (p .read-table .ensures) _ (c .before .read .given .1)) (refl, refl)
+    rw (refused-stopped _ _ (c .before .before .before .read-table .ensures) _ (c .before .read .given .1)) (refl, refl)
 
 enum-told : tie.Need-enum-told
 enum-told c = search needs
@@ -32,10 +29,8 @@ returns-2 c =
     let e = c .before .before .before .before in
     let p = e .before .before in
     let k = p .before .before in
-    let l = k .before .args .file .now in
-    let known : Bytes l = λ i. k .shared-slice-known .given i .fits in
-    let read = sound-read l (p .read-table .result) (p .read-table .ensures) (e .enum-told .given .1) in
-    rw read (rewritten l _ read known _ _ _ (c .before .before .write-table .ensures))
+    let read = sound-read _ _ (p .read-table .ensures) (e .enum-told .given .1) in
+    rw read (rewritten _ _ read (λ i. k .shared-slice-known .given i .fits) _ _ _ (c .before .before .write-table .ensures))
 
 pub rewrite-bytes-spec : {M : Type 1} → statement M
 rewrite-bytes-spec =

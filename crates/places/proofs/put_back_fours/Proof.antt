@@ -2,16 +2,12 @@
 use borrow.Author.Needs.{needs}
 use native.Mathlib.Omega.{arith}
 use lib.ListN.{length-take}
-use Rattle.places.proofs.PlaceLaws.{take-lesser}
+use Rattle.places.proofs.PlaceLaws.{put-back}
 use Rattle.places.proofs.put_back_fours.Statement.{statement}
 use Rattle.places.proofs.put_back_fours.Tie as tie
 
 returns : tie.Need-returns
-returns c =
-    let p = c .before .before in
-    let l = p .before .before .before in
-    let a = l .before .before .before .args in
-    rw (← take-lesser (a .n) (a .vals .now) (l .lesser .ensures)) (p .put-fours .ensures)
+returns c = put-back 4 _ _ _ (c .before .before .before .before .before .lesser .ensures) (c .before .before .put-fours .ensures)
 
 pub put-back-fours-spec : {M : Type 1} → statement M
 put-back-fours-spec = tie.close (tie.spec (λ c. search needs) (λ c. simp length-take (omega arith)) (λ c. search needs) (λ c. search needs) returns)

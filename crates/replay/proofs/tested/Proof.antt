@@ -1,9 +1,11 @@
 use borrow.Author.Needs.{needs}
 use native.Mathlib.Omega.{arith}
 use borrow.Author.Tests.{not-true, not-false}
+use Rattle.model.specs.Table.{Valid}
 use Rattle.model.proofs.AnswerLaws.{told, untold}
+use Rattle.table.specs.Rows.{machineOf}
 use Rattle.table.proofs.TestLaws.{sound-valid}
-use Rattle.replay.proofs.ReplayLaws.{fails-table, fails-trace, fails-stamps, fails-room, passes-all}
+use Rattle.replay.proofs.ReplayLaws.{fails-table, fails-trace, Lengths, lengths}
 use Rattle.replay.proofs.tested.Statement.{statement}
 use Rattle.replay.proofs.tested.Tie as tie
 
@@ -25,44 +27,37 @@ enum-told c = search needs
 is-trace-requires : tie.Need-is-trace-requires
 is-trace-requires c κs = search needs
 
+-- the table passed its check
+valid : (p : tie.After-enum-told) → Valid (machineOf (p .before .before .before .before .before .before .before .before .before .args .t1))
+valid p = sound-valid _ (p .enum-told .given .1) (p .before .before .check-parts .ensures)
+
 returns-2 : tie.Need-returns-2
 returns-2 c =
     let p = c .before in
     let a = p .before .before .before .before .before .before .before .before .before .before .before .before .args in
-    let valid = sound-valid _ (p .before .before .before .enum-told .given .1) (p .before .before .before .before .before .check-parts .ensures) in
-    fails-trace (a .t1) (a .trace .now) (a .stamps .now) (a .order .now) (a .due .now) valid (untold (p .is-trace .result) (p .is-trace .ensures) (not-true _ (c .if1 .taken)))
+    fails-trace (a .t1) (a .trace .now) (a .stamps .now) (a .order .now) (a .due .now) (valid (p .before .before .before))
+    (untold (p .is-trace .result) (p .is-trace .ensures) (not-true _ (c .if1 .taken)))
+
+-- and the list is a trace of it
+traced : (p : tie.Else1)
+    → let a = p .before .before .before .before .before .before .before .before .before .before .before .before .before .args in
+    Lengths (a .t1) (a .trace .now) (a .stamps .now) (a .order .now) (a .due .now)
+traced p =
+    let a = p .before .before .before .before .before .before .before .before .before .before .before .before .before .args in
+    lengths (a .t1) (a .trace .now) (a .stamps .now) (a .order .now) (a .due .now) (valid (p .before .before .before .before))
+    (told (p .before .is-trace .result) (p .before .is-trace .ensures) (not-false _ (p .if1 .left)))
 
 returns-3 : tie.Need-returns-3
-returns-3 c =
-    let p = c .before .before in
-    let a = p .before .before .before .before .before .before .before .before .before .before .before .before .args in
-    let valid = sound-valid _ (p .before .before .before .enum-told .given .1) (p .before .before .before .before .before .check-parts .ensures) in
-    let traced = told (p .is-trace .result) (p .is-trace .ensures) (not-false _ (c .before .if1 .left)) in
-    fails-stamps (a .t1) (a .trace .now) (a .stamps .now) (a .order .now) (a .due .now) valid traced (λ e. omega arith)
+returns-3 c = traced (c .before) .uneven (λ e. omega arith)
 
 returns-4 : tie.Need-returns-4
-returns-4 c =
-    let p = c .before .before .before in
-    let a = p .before .before .before .before .before .before .before .before .before .before .before .before .args in
-    let valid = sound-valid _ (p .before .before .before .enum-told .given .1) (p .before .before .before .before .before .check-parts .ensures) in
-    let traced = told (p .is-trace .result) (p .is-trace .ensures) (not-false _ (c .before .before .if1 .left)) in
-    fails-room (a .t1) (a .trace .now) (a .stamps .now) (a .order .now) (a .due .now) valid traced (omega arith) (λ h. omega arith)
+returns-4 c = traced (c .before .before) .cramped (omega arith) (λ h. omega arith)
 
 returns-5 : tie.Need-returns-5
-returns-5 c =
-    let p = c .before .before .before .before in
-    let a = p .before .before .before .before .before .before .before .before .before .before .before .before .args in
-    let valid = sound-valid _ (p .before .before .before .enum-told .given .1) (p .before .before .before .before .before .check-parts .ensures) in
-    let traced = told (p .is-trace .result) (p .is-trace .ensures) (not-false _ (c .before .before .before .if1 .left)) in
-    fails-room (a .t1) (a .trace .now) (a .stamps .now) (a .order .now) (a .due .now) valid traced (omega arith) (λ h. omega arith)
+returns-5 c = traced (c .before .before .before) .cramped (omega arith) (λ h. omega arith)
 
 returns-6 : tie.Need-returns-6
-returns-6 c =
-    let p = c .before .before .before .before in
-    let a = p .before .before .before .before .before .before .before .before .before .before .before .before .args in
-    let valid = sound-valid _ (p .before .before .before .enum-told .given .1) (p .before .before .before .before .before .check-parts .ensures) in
-    let traced = told (p .is-trace .result) (p .is-trace .ensures) (not-false _ (c .before .before .before .if1 .left)) in
-    passes-all (a .t1) (a .trace .now) (a .stamps .now) (a .order .now) (a .due .now) valid traced (omega arith) (omega arith) (omega arith)
+returns-6 c = traced (c .before .before .before) .roomy (omega arith) (omega arith) (omega arith)
 
 pub tested-spec : {M : Type 1} → statement M
 tested-spec =

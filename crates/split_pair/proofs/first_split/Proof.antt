@@ -6,7 +6,7 @@ use Prim.Native.Nat.{_≤_, _-_}
 use lib.ListN.{length}
 use Rattle.table.specs.Rows.{rows}
 use Rattle.table.proofs.RowLaws.{length-rows}
-use Rattle.split_pair.proofs.SplitLaws.{Clear, clear-more, least-here, none-clear}
+use Rattle.split_pair.proofs.SplitLaws.{Clear, Searched, searched, none-clear}
 use Rattle.split_pair.proofs.first_split.Statement.{statement}
 use Rattle.split_pair.proofs.first_split.Tie as tie
 
@@ -25,14 +25,15 @@ loop-holds c = (omega arith, λ x h. absurd (omega arith))
 partner-requires : tie.Need-partner-requires Inv-loop μ-loop
 partner-requires c κs = search needs
 
+-- both ways on from the search at i
+after-partner : (p : tie.After-partner Inv-loop μ-loop)
+    → let a = p .before .before .before .before .args in Searched (a .cells .now) (a .count) (a .dist .now) (p .before .before .loop .i) (p .partner .result)
+after-partner p =
+    let a = p .before .before .before .before .args in
+    searched (a .cells .now) (a .count) (a .dist .now) (p .before .before .loop .i) (p .partner .result) (p .before .before .loop .inv .1) (p .partner .ensures)
+
 returns-2 : tie.Need-returns-2 Inv-loop μ-loop
-returns-2 c =
-    let a = c .before .before .before .before .before .args in
-    let n = length-rows (a .cells .now) (a .count) in
-    let l = c .before .before .before .loop in (
-      omega arith,
-      least-here (rows (a .cells .now) (a .count)) (a .dist .now) (l .i) (c .before .partner .result) (l .inv .1) (c .before .partner .ensures) (omega arith),
-    )
+returns-2 c = (omega arith, after-partner (c .before) .0 (omega arith))
 
 add-i : tie.Need-add-i Inv-loop μ-loop
 add-i c = search needs
@@ -41,13 +42,7 @@ loop-less : tie.Need-loop-less Inv-loop μ-loop
 loop-less c = search needs
 
 loop-again : tie.Need-loop-again Inv-loop μ-loop
-loop-again c =
-    let a = c .before .before .before .before .before .args in
-    let n = length-rows (a .cells .now) (a .count) in
-    let l = c .before .before .before .loop in (
-      omega arith,
-      clear-more (rows (a .cells .now) (a .count)) (a .dist .now) (l .i) (c .before .partner .result) (l .inv .1) (c .before .partner .ensures) (omega arith),
-    )
+loop-again c = (omega arith, after-partner (c .before) .1 (omega arith))
 
 returns-3 : tie.Need-returns-3 Inv-loop μ-loop
 returns-3 c =

@@ -6,10 +6,12 @@ use mathlib.Core.Path.{_≡_, sym, _∙_}
 use Prim.Native.Nat.{ℕ, _≤_, _<_, _-_}
 use lib.ListN.{length}
 use borrow.Author.Count.{below-more}
+use Rattle.model.specs.Answers.{Tells}
+use Rattle.model.specs.Table.{at}
 use Rattle.model.proofs.AnswerLaws.{told, untold}
 use Rattle.table.specs.Rows.{rows}
 use Rattle.table.proofs.RowLaws.{length-rows}
-use Rattle.split_pair.specs.Split.{MarkedPair}
+use Rattle.split_pair.specs.Split.{Forks, MarkedPair}
 use Rattle.split_pair.proofs.SplitLaws.{partner-none, leaves-here, forks-here}
 use Rattle.split_pair.proofs.partner.Statement.{statement}
 use Rattle.split_pair.proofs.partner.Tie as tie
@@ -47,14 +49,23 @@ row-of-requires-2 c κs = search needs
 forks-requires : tie.Need-forks-requires Inv-loop μ-loop
 forks-requires c κs = search needs
 
+-- the test of j, told of the two transitions
+after-forks : (p : tie.After-forks Inv-loop μ-loop)
+    → let a = p .before .before .before .before .before .before .before .args in
+    Tells (p .forks .result) (Forks (at (rows (a .cells .now) (a .count)) (a .i)) (at (rows (a .cells .now) (a .count)) (p .before .before .before .loop .j)))
+after-forks p =
+    let row = p .before .before .before .before .before .before in
+    let s = row .before in
+    let a = s .args in
+    forks-here (a .cells .now) (a .dist .now) (a .count) (s .pre .0) (a .i) (s .pre .1) (row .row-of .ensures) (p .before .before .before .loop .j)
+    (p .before .before .loop-test .taken) (p .before .row-of2 .ensures) (p .forks .result) (p .forks .ensures)
+
 returns-2 : tie.Need-returns-2 Inv-loop μ-loop
 returns-2 c =
     let row = c .before .before .before .before .before .before .before in
     let s = row .before in
     let a = s .args in
     let l = c .before .before .before .before .loop in
-    let f = forks-here (a .cells .now) (a .dist .now) (a .count) (s .pre .0) (a .i) (s .pre .1) (row .row-of .ensures) (l .j)
-    (c .before .before .before .loop-test .taken) (c .before .before .row-of2 .ensures) (c .before .forks .result) (c .before .forks .ensures) in
     let e = leaves-here (a .cells .now) (a .dist .now) (a .count) (s .pre .0) (a .i) (s .pre .1) (row .row-of .ensures) in
     let n = length-rows (a .cells .now) (a .count) in
     let m = pos-of-ne-zero (c .before .before .before .before .before .if1 .left) in
@@ -64,7 +75,7 @@ returns-2 c =
         marked = omega (arith, c .before .before .before .before .before .before .mark-of .ensures);
         ordered = l .inv .0;
         inside = h;
-        forks = told (c .before .forks .result) f (c .if2 .taken);
+        forks = told (c .before .forks .result) (after-forks (c .before)) (c .if2 .taken);
       };
       least = l .inv .2;
     }
@@ -77,16 +88,12 @@ loop-less c = search needs
 
 loop-again : tie.Need-loop-again Inv-loop μ-loop
 loop-again c =
-    let row = c .before .before .before .before .before .before .before in
-    let s = row .before in
-    let a = s .args in
-    let l = c .before .before .before .before .loop in
-    let f = forks-here (a .cells .now) (a .dist .now) (a .count) (s .pre .0) (a .i) (s .pre .1) (row .row-of .ensures) (l .j)
-    (c .before .before .before .loop-test .taken) (c .before .before .row-of2 .ensures) (c .before .forks .result) (c .before .forks .ensures) in (
+    let a = c .before .before .before .before .before .before .before .before .args in
+    let l = c .before .before .before .before .loop in (
       omega arith,
       omega arith,
       below-more (λ y. MarkedPair (rows (a .cells .now) (a .count)) (a .dist .now) (a .i) y → ⊥) (l .j) (l .inv .2)
-          (λ m. untold (c .before .forks .result) f (c .if2 .left) (m .forks)),
+          (λ m. untold (c .before .forks .result) (after-forks (c .before)) (c .if2 .left) (m .forks)),
     )
 
 returns-3 : tie.Need-returns-3 Inv-loop μ-loop

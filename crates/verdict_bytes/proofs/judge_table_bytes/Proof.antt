@@ -7,25 +7,19 @@ use Rattle.verdict_bytes.proofs.judge_table_bytes.Tie as tie
 
 returns : tie.Need-returns
 returns c =
-    let p = c .before .before .before in
-    let l = p .before .before .before .before .args .file .now in
-    rw (refused-stopped l (p .read-table .result) (p .read-table .ensures) _ (c .before .read .given .1)) (refl, refl, refl)
+    rw (refused-stopped _ _ (c .before .before .before .read-table .ensures) _ (c .before .read .given .1)) (refl, refl, refl)
 
 judge-on-requires : tie.Need-judge-on-requires
 judge-on-requires c κs =
     let e = c .before .before .before .before .before .before in
     let p = e .before .before in
-    let k = p .before .before .before in
-    let l = k .before .args .file .now in
-    (read-valid l (p .read-table .result) (p .read-table .ensures) (e .enum-told .given .1) (λ i. k .shared-slice-known .given i .fits), search needs)
+    (read-valid _ _ (p .read-table .ensures) (e .enum-told .given .1) (λ i. p .before .before .before .shared-slice-known .given i .fits), search needs)
 
 returns-2 : tie.Need-returns-2
 returns-2 c =
     let j = c .before .before .before .before .before .before in
     let e = j .before .before .before .before .before .before .before in
-    let p = e .before .before in
-    let l = p .before .before .before .before .args .file .now in
-    rw (sound-read l (p .read-table .result) (p .read-table .ensures) (e .enum-told .given .1)) (j .judge-on .ensures)
+    rw (sound-read _ _ (e .before .before .read-table .ensures) (e .enum-told .given .1)) (j .judge-on .ensures)
 
 pub judge-table-bytes-spec : {M : Type 1} → statement M
 judge-table-bytes-spec =

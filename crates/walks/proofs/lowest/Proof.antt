@@ -17,7 +17,7 @@ any-overtaken-requires c κs = search needs
 returns-2 : tie.Need-returns-2
 returns-2 c =
     let r = c .before .any-overtaken in
-    λ x p. none-starts (untold (r .result) (r .ensures) (not-true _ (c .if2 .taken))) x (p .1)
+    λ x p. none-starts _ (untold (r .result) (r .ensures) (not-true _ (c .if2 .taken))) x (p .1)
 
 in-limits-requires : tie.Need-in-limits-requires
 in-limits-requires c κs = search needs

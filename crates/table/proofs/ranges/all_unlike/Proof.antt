@@ -2,7 +2,8 @@ use borrow.Author.Needs.{needs}
 use native.Mathlib.Omega.{arith}
 use mathlib.Core.Path.{_≡_, sym, _∙_}
 use Prim.Native.Nat.{_≤_, _-_}
-use Rattle.table.specs.Rows.{rows}
+use Rattle.table.specs.Rows.{rowAt, rows, said}
+use Rattle.table.specs.Check.{has}
 use Rattle.model.specs.Table.{Unlike}
 use Rattle.table.proofs.RowLaws.{unlike-none, unlike-next, unlike-stop}
 use Rattle.table.proofs.ranges.all_unlike.Statement.{statement}
@@ -23,12 +24,14 @@ row-at-requires c κs = search needs
 has-row-requires : tie.Need-has-row-requires Inv-loop μ-loop
 has-row-requires c κs = search needs
 
+-- the test of transition i
+after-has-row : (p : tie.After-has-row Inv-loop μ-loop)
+    → let a = p .before .before .before .before .args in
+    p .has-row .result ≡ has (said (rowAt (a .cells .now) (p .before .before .before .loop .i))) (rows (a .cells .now) (p .before .before .before .loop .i))
+after-has-row p = rw (p .before .row-at .ensures) at (p .has-row .ensures)
+
 returns : tie.Need-returns Inv-loop μ-loop
-returns c =
-    let a = c .before .before .before .before .before .args in
-    let l = c .before .before .before .before .loop in
-    let e = rw (c .before .before .row-at .ensures) at (sym (c .before .has-row .ensures) ∙ c .if1 .taken) in
-    unlike-stop (a .cells .now) (a .n) (l .i) (omega arith) e
+returns c = unlike-stop _ _ _ (omega arith) (sym (after-has-row (c .before)) ∙ c .if1 .taken)
 
 add-i : tie.Need-add-i Inv-loop μ-loop
 add-i c = search needs
@@ -37,11 +40,7 @@ loop-less : tie.Need-loop-less Inv-loop μ-loop
 loop-less c = search needs
 
 loop-again : tie.Need-loop-again Inv-loop μ-loop
-loop-again c =
-    let a = c .before .before .before .before .before .args in
-    let l = c .before .before .before .before .loop in
-    let e = rw (c .before .before .row-at .ensures) at (sym (c .before .has-row .ensures) ∙ c .if1 .left) in
-    (omega arith, unlike-next (a .cells .now) (l .i) (l .inv .1) e)
+loop-again c = (omega arith, unlike-next _ _ (c .before .before .before .before .loop .inv .1) (sym (after-has-row (c .before)) ∙ c .if1 .left))
 
 returns-2 : tie.Need-returns-2 Inv-loop μ-loop
 returns-2 c =

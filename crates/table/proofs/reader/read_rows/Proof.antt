@@ -1,11 +1,13 @@
 use borrow.Author.Needs.{needs}
 use native.Mathlib.Omega.{arith}
-use mathlib.Core.Path.{sym, _∙_}
+use mathlib.Core.Path.{_≡_, sym, _∙_}
 use Prim.Native.Nat.{_-_}
 use lib.ListN.{drop}
-use Rattle.table.proofs.ReadLaws.{Kept, kept-start, kept-bad, kept-last, kept-stop, kept-more}
+use Rattle.table.specs.File.{frameIn}
+use Rattle.table.specs.declared.Frame.the-variants.{Last}
+use Rattle.table.proofs.ReadLaws.{Kept, TookAfter, kept-start, kept-bad, kept-last, kept-took, kept-stop, kept-more}
 use lib.ListN.{length-drop}
-use Rattle.table.proofs.FrameLaws.{last-says, took-says}
+use Rattle.table.proofs.FrameLaws.{last-says}
 use Rattle.table.proofs.reader.read_rows.Statement.{statement}
 use Rattle.table.proofs.reader.read_rows.Tie as tie
 
@@ -36,22 +38,32 @@ returns c =
 enum-told : tie.Need-enum-told Inv-loop μ-loop
 enum-told c = search needs
 
+-- the record is the end
+last : (p : tie.After-enum-told Inv-loop μ-loop)
+    → frameIn (p .before .before .before .loop .at) (drop (p .before .before .before .loop .at) (p .before .before .before .before .before .args .file .now)) ≡ Last
+last p = sym (p .before .before .frame .ensures) ∙ p .enum-told .given .1
+
 finish-requires : tie.Need-finish-requires Inv-loop μ-loop
 finish-requires c κs =
     let l = c .before .before .before .loop in
     let a = c .before .before .before .before .before .args in
-    let e = sym (c .before .before .frame .ensures) ∙ c .enum-told .given .1 in
-    omega (arith, last-says (l .at) (drop (l .at) (a .file .now)) e .long, length-drop (l .at) (a .file .now), l .inv .inside)
+    omega (arith, last-says (l .at) (drop (l .at) (a .file .now)) (last c) .long, length-drop (l .at) (a .file .now), l .inv .inside)
 
 returns-2 : tie.Need-returns-2 Inv-loop μ-loop
 returns-2 c =
     let l = c .before .before .before .before .loop in
     let a = c .before .before .before .before .before .before .args in
-    let e = sym (c .before .before .before .frame .ensures) ∙ c .before .enum-told .given .1 in
-    kept-last (a .file .now) (a .states) (l .cells) (l .n) (l .at) (l .inv) e _ (c .finish .ensures)
+    kept-last (a .file .now) (a .states) (l .cells) (l .n) (l .at) (l .inv) (last (c .before)) _ (c .finish .ensures)
 
 enum-known-f-2 : tie.Need-enum-known-f-2 Inv-loop μ-loop
 enum-known-f-2 c = search needs
+
+-- the record is a transition, after n others
+took : (p : tie.After-f2 Inv-loop μ-loop) → let l = p .before .before .before .loop in TookAfter (p .before .before .before .before .before .args .file .now) (l .n) (l .at) (p .f2 .given .0 .0)
+took p =
+    let l = p .before .before .before .loop in
+    kept-took (p .before .before .before .before .before .args .file .now) (p .before .before .before .before .before .args .states) (l .cells) (l .n) (l .at) (l .inv) _
+    (sym (p .before .before .frame .ensures) ∙ p .f2 .given .1)
 
 admit-requires : tie.Need-admit-requires Inv-loop μ-loop
 admit-requires c κs = c .before .before .before .before .before .loop .inv .few
@@ -63,37 +75,28 @@ returns-3 : tie.Need-returns-3 Inv-loop μ-loop
 returns-3 c =
     let l = c .before .before .before .before .before .before .before .before .before .loop in
     let a = c .before .before .before .before .before .before .before .before .before .before .before .args in
-    let e = sym (c .before .before .before .before .before .before .before .before .frame .ensures) ∙ c .before .before .before .before .before .before .f2 .given .1 in
-    kept-stop (a .file .now) (a .states) (l .cells) (l .n) (l .at) (l .inv) _ e _ (sym (c .before .a .given .1) ∙ c .before .before .before .admit .ensures .0)
+    kept-stop (a .file .now) (a .states) (l .cells) (l .n) (l .at) (l .inv) _ (took (c .before .before .before .before .before .before) .is) _
+    (sym (c .before .a .given .1) ∙ c .before .before .before .admit .ensures .0)
 
 enum-told-2 : tie.Need-enum-told-2 Inv-loop μ-loop
 enum-told-2 c = search needs
 
 add-n : tie.Need-add-n Inv-loop μ-loop
-add-n c =
-    let l = c .before .before .before .before .before .before .before .before .loop in
-    omega (arith, l .inv .few)
+add-n c = omega (arith, took (c .before .before .before .before .before) .few)
 
 add-at : tie.Need-add-at Inv-loop μ-loop
-add-at c =
-    let l = c .before .before .before .before .before .before .before .before .loop in
-    let a = c .before .before .before .before .before .before .before .before .before .before .args in
-    let e = sym (c .before .before .before .before .before .before .before .frame .ensures) ∙ c .before .before .before .before .before .f2 .given .1 in
-    omega (arith, took-says (l .at) (drop (l .at) (a .file .now)) _ e .long, length-drop (l .at) (a .file .now), l .inv .inside)
+add-at c = omega (arith, took (c .before .before .before .before .before) .inside)
 
 loop-less : tie.Need-loop-less Inv-loop μ-loop
-loop-less c =
-    let l = c .before .before .before .before .before .before .before .before .loop in
-    omega (arith, l .inv .few)
+loop-less c = omega (arith, took (c .before .before .before .before .before) .few)
 
 loop-again : tie.Need-loop-again Inv-loop μ-loop
 loop-again c =
     let l = c .before .before .before .before .before .before .before .before .loop in
     let a = c .before .before .before .before .before .before .before .before .before .before .args in
-    let e = sym (c .before .before .before .before .before .before .before .frame .ensures) ∙ c .before .before .before .before .before .f2 .given .1 in
     let s = sym (c .enum-told2 .given .1) ∙ c .before .before .admit .ensures .0 in
     let w = c .before .before .admit .ensures .1 in
-    kept-more (a .file .now) (a .states) (l .cells) (l .n) (l .at) (l .inv) _ e _ s (rw (c .enum-told2 .given .1) at w)
+    kept-more (a .file .now) (a .states) (l .cells) (l .n) (l .at) (l .inv) _ (took (c .before .before .before .before .before) .is) _ s (rw (c .enum-told2 .given .1) at w)
 
 pub read-rows-spec : {M : Type 1} → statement M
 read-rows-spec =

@@ -6,7 +6,7 @@ use Rattle.model.proofs.AnswerLaws.{told, untold}
 use Rattle.table.specs.Rows.{rows}
 use Rattle.table.proofs.RowLaws.{length-rows}
 use Rattle.walks.specs.Neighbours.{Overtaken}
-use Rattle.walks.proofs.NeighbourLaws.{any-at, none-overtaken}
+use Rattle.walks.proofs.EndLaws.{among-at, among-none}
 use Rattle.walks.proofs.neighbours.any_overtaken.Statement.{statement}
 use Rattle.walks.proofs.neighbours.any_overtaken.Tie as tie
 
@@ -23,7 +23,7 @@ overtaken-requires : tie.Need-overtaken-requires Inv-loop μ-loop
 overtaken-requires c κs = search needs
 
 returns : tie.Need-returns Inv-loop μ-loop
-returns c = any-at (length-rows _ _) (c .before .before .loop-test .taken) (told _ (c .before .overtaken .ensures) (c .if1 .taken))
+returns c = among-at (length-rows _ _) (c .before .before .loop-test .taken) (told _ (c .before .overtaken .ensures) (c .if1 .taken))
 
 add-k : tie.Need-add-k Inv-loop μ-loop
 add-k c = search needs
@@ -37,7 +37,7 @@ loop-again c =
     (omega arith, below-more _ (l .k) (l .inv .1) (untold _ (c .before .overtaken .ensures) (c .if1 .left)))
 
 returns-2 : tie.Need-returns-2 Inv-loop μ-loop
-returns-2 c = none-overtaken (length-rows _ _) (omega arith) (c .before .loop .inv .1)
+returns-2 c = among-none (length-rows _ _) (omega arith) (c .before .loop .inv .1)
 
 pub any-overtaken-spec : {M : Type 1} → statement M
 any-overtaken-spec =

@@ -13,19 +13,16 @@ cast-if1 c = search needs
 returns : tie.Need-returns
 returns c = not-to (c .before .before .row .ensures) (c .if1 .taken)
 
-cast-mark : tie.Need-cast-mark
-cast-mark c = search needs
-
-mark-requires : tie.Need-mark-requires
-mark-requires c κs = search needs
+mark-of-requires : tie.Need-mark-of-requires
+mark-of-requires c κs = search needs
 
 returns-2 : tie.Need-returns-2
-returns-2 c = not-left (c .before .before .before .before .before .row .ensures) (omega (arith, c .before .mark .ensures))
+returns-2 c = not-left (c .before .before .before .before .row .ensures) (omega (arith, c .before .mark-of .ensures))
 
 returns-3 : tie.Need-returns-3
 returns-3 c =
-    let o = c .before .before .before .if1 .left in
-    is-arrival (c .before .before .before .before .before .row .ensures) o (omega (arith, c .before .mark .ensures))
+    let o = c .before .before .if1 .left in
+    is-arrival (c .before .before .before .before .row .ensures) o (omega (arith, c .before .mark-of .ensures))
 
 pub arrives-spec : {M : Type 1} → statement M
 arrives-spec =
@@ -34,7 +31,6 @@ arrives-spec =
     row-requires
     cast-if1
     returns
-    cast-mark
-    mark-requires
+    mark-of-requires
     returns-2
     returns-3)

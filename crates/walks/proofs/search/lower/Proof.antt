@@ -1,6 +1,6 @@
 use borrow.Author.Needs.{needs}
 use native.Mathlib.Omega.{arith}
-use Rattle.walks.proofs.BestLaws.{sized}
+use Rattle.walks.proofs.BestLaws.{roomy}
 use Rattle.walks.proofs.EndLaws.{ready-at}
 use Rattle.walks.proofs.search.lower.Statement.{statement}
 use Rattle.walks.proofs.search.lower.Tie as tie
@@ -15,7 +15,7 @@ first-start-requires : tie.Need-first-start-requires
 first-start-requires c κs =
     let s = c .before .before .before .before .before .before .before .pre in
     let f = c .before .before .before .fill in
-    let z = sized {best = f .last .1 .1 .1 .0} (s .0) (s .3) (omega (arith, f .kept .1 .1 .1 .0)) in
+    let z = roomy {best = f .last .1 .1 .1 .0} (s .0) (s .3) (omega (arith, f .kept .1 .1 .1 .0)) in
     (s .0, s .1, ready-at (c .before .before .before .before .before .depth .ensures) z (f .ensures))
 
 same-length : tie.Need-same-length

@@ -42,18 +42,14 @@ same-length c = search needs
 
 returns : tie.Need-returns Inv-loop μ-loop
 returns c =
-    let l = c .before .before .loop in
-    let e : l .s ≡ 32 = omega arith in
-    lowest-at (c .before .before .before .before .pre .0 .ranged) (length-rows _ _) (rw e at (l .inv .2)) (c .if1 .taken)
+    lowest-at (c .before .before .before .before .pre .0 .ranged) (length-rows _ _) (omega arith) (c .before .before .loop .inv .2) (c .if1 .taken)
 
 same-length-2 : tie.Need-same-length-2 Inv-loop μ-loop
 same-length-2 c = search needs
 
 returns-2 : tie.Need-returns-2 Inv-loop μ-loop
 returns-2 c =
-    let l = c .before .before .loop in
-    let e : l .s ≡ 32 = omega arith in
-    lowest-nothing (c .before .before .before .before .pre .0 .ranged) (length-rows _ _) (rw e at (l .inv .2)) (c .if1 .left)
+    lowest-nothing (c .before .before .before .before .pre .0 .ranged) (length-rows _ _) (omega arith) (c .before .before .loop .inv .2) (c .if1 .left)
 
 pub lowest-start-spec : {M : Type 1} → statement M
 lowest-start-spec =

@@ -5,7 +5,7 @@ use Prim.Native.Nat.{_+_, _≤_, _-_}
 use lib.ListN.{length}
 use Rattle.table.specs.Rows.{rows}
 use Rattle.walks.specs.Best.{Filled}
-use Rattle.walks.proofs.BestLaws.{sized, filled-first, making-none, filled-to}
+use Rattle.walks.proofs.BestLaws.{roomy, filled-first, making-none, filled-to}
 use Rattle.walks.proofs.sums.fill.Statement.{statement}
 use Rattle.walks.proofs.sums.fill.Tie as tie
 
@@ -34,7 +34,7 @@ sweep-requires c κs =
     let s = c .before .before .before .before .before .before .before .before .before .before .before .before .pre in
     let l = c .before .before .before .before .before .before .loop .inv in
     let r = c .before .before .before .copy-row in
-    (s .0, making-none (sized (s .0) (s .1) (omega (arith, r .kept .0))) (omega arith) (l .2) (r .ensures))
+    (s .0, making-none (roomy (s .0) (s .1) (omega (arith, r .kept .0))) (omega arith) (l .2) (r .ensures))
 
 add-p : tie.Need-add-p Inv-loop μ-loop
 add-p c = search needs

@@ -4,7 +4,7 @@ use borrow.Fn.PlainCycle.{Measures, is, falls, and}
 use native.Mathlib.Omega.{arith}
 use Prim.Native.Nat.{ℕ, _<_}
 use Rattle.table.proofs.RowLaws.{length-rows}
-use Rattle.walks.proofs.BackLaws.{explained, step-falls, back-stands, first-went, back-on, went-step}
+use Rattle.walks.proofs.BackLaws.{explained, step-falls, step-less, back-stands, first-went, back-on, went-step}
 use Rattle.walks.proofs.walk.walk_back.Reads as walk-back
 use Rattle.walks.proofs.walk.walk_back.Kinds as walk-back-kinds
 use Rattle.walks.proofs.walk.+walk_back.Lts-walk_back as walk-back-lts
@@ -82,7 +82,7 @@ walk-back-explain-requires : (t : ℕ) → walk-back-lts.Need-explain-requires (
 walk-back-explain-requires t c κs =
     let s = c .before .before .before .before .before .before .pre .1 in
     let p = back-stands (s .1) (c .before .before .before .row .ensures) in
-    (s .0, p .sized .size, p .high, p .state, explained p (c .before .if1 .left))
+    (s .0, p .roomy .size, p .high, p .state, explained p (c .before .if1 .left))
 
 walk-back-walk-back-requires : (t : ℕ) → walk-back-lts.Need-walk-back-requires (calls t) (walk-back-at t) walk-back.Post
 walk-back-walk-back-requires t c κs =
@@ -102,15 +102,13 @@ walk-back-add-trace : (t : ℕ) → walk-back-lts.Need-add-trace (calls t) (walk
 walk-back-add-trace t c =
     let s = c .before .before .before .before .before .before .before .before .before .before .before .before in
     let r = c .before .before .before .before .before .before .before .before .before .row .ensures in
-    let f = step-falls (s .pre .1 .1) r in
-    omega (arith, c .before .before .before .walk-back .ensures .short, s .pre .1 .2, r .fine .low, s .good .1 .1 .1 .1 .1 .1 .0)
+    omega (arith, step-less (s .pre .1 .1) r (c .before .before .before .walk-back .ensures .short), s .pre .1 .2, s .good .1 .1 .1 .1 .1 .1 .0)
 
 walk-back-mul-trace-2 : (t : ℕ) → walk-back-lts.Need-mul-trace-2 (calls t) (walk-back-at t) walk-back.Post
 walk-back-mul-trace-2 t c =
     let s = c .before .before .before .before .before .before .before .before .before .before .before .before in
     let r = c .before .before .before .before .before .before .before .before .before .row .ensures in
-    let f = step-falls (s .pre .1 .1) r in
-    omega (arith, c .before .before .before .walk-back .ensures .short, s .pre .1 .2, r .fine .low, s .good .1 .1 .1 .1 .1 .1 .0)
+    omega (arith, step-less (s .pre .1 .1) r (c .before .before .before .walk-back .ensures .short), s .pre .1 .2, s .good .1 .1 .1 .1 .1 .1 .0)
 
 walk-back-slice-write-trace-2 : (t : ℕ) → walk-back-lts.Need-slice-write-trace-2 (calls t) (walk-back-at t) walk-back.Post
 walk-back-slice-write-trace-2 t c = search needs

@@ -2,7 +2,7 @@ use borrow.Author.Needs.{needs}
 use native.Mathlib.Omega.{arith}
 use Rattle.model.proofs.CriterionLaws.{slack-small}
 use Rattle.table.proofs.RowLaws.{length-rows}
-use Rattle.walks.proofs.EndLaws.{turns-known}
+use Rattle.walks.proofs.EndLaws.{turns-known, number-there}
 use Rattle.walks.proofs.BackLaws.{end-sum}
 use Rattle.walks.proofs.walk.end_sum.Statement.{statement}
 use Rattle.walks.proofs.walk.end_sum.Tie as tie
@@ -24,9 +24,8 @@ cast-least-row c = search needs
 
 least-row-requires : tie.Need-least-row-requires
 least-row-requires c κs =
-    let t = c .before .before .row2 .ensures in
-    let o = slack-small _ _ (c .before .before .before .row .ensures .fine) (t .fine) in
-    (c .before .before .before .before .before .pre .2 .sized .size, omega (arith, c .before .most-before .ensures), t .fine .leaves)
+    let s = c .before .before .before .before .before in
+    number-there (s .args .k) (s .pre .2) (s .args .m) (c .before .before .before .row .ensures) (c .before .before .row2 .ensures) (c .before .most-before .ensures)
 
 cast-result : tie.Need-cast-result
 cast-result c = search needs

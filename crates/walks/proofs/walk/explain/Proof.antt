@@ -6,6 +6,7 @@ use Rattle.model.proofs.AnswerLaws.{told, untold}
 use Rattle.table.specs.Rows.{rows}
 use Rattle.table.proofs.RowLaws.{length-rows}
 use Rattle.walks.specs.Best.{Explains}
+use Rattle.walks.proofs.EndLaws.{among-none}
 use Rattle.walks.proofs.walk.explain.Statement.{statement}
 use Rattle.walks.proofs.walk.explain.Tie as tie
 
@@ -36,10 +37,7 @@ loop-again c =
     (omega arith, below-more _ (l .j) (l .inv .1) (untold _ (c .before .explains .ensures) (c .if1 .left)))
 
 returns-2 : tie.Need-returns-2 Inv-loop μ-loop
-returns-2 c =
-    let a = c .before .before .before .args in
-    let p = c .before .before .before .pre .4 in
-    absurd (c .before .loop .inv .1 (p .j) (omega (arith, p .known, length-rows (a .cells .now) (a .count))) (p .last))
+returns-2 c = absurd (among-none (length-rows _ _) (omega arith) (c .before .loop .inv .1) (c .before .before .before .pre .4))
 
 pub explain-spec : {M : Type 1} → statement M
 explain-spec =
