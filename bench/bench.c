@@ -1,6 +1,6 @@
 /* Time per call of the library and of the plain C version, from one alternating run, and the library's stack.
  *
- * Links the library's four calls (sandgusset_...) with those of bench/sandgusset.c under other names (base_...).
+ * Links the library's five calls (sandgusset_...) with those of bench/sandgusset.c under other names (base_...).
  * bench/run builds it, runs it and prints a table of what it says. It says, in lines whose words are parted by tabs:
  *   time   group  name  goal (greatest ratio, or 0)  seconds per call of the library  of the baseline
  *   stack  call   bytes that it used  bytes that the header names
@@ -19,16 +19,17 @@
 #include "sandgusset.h"
 
 uint64_t base_judge(const uint8_t *, size_t, uint8_t *, size_t, uint8_t *, size_t);
+uint64_t base_order(const uint8_t *, size_t, uint8_t *, size_t, uint8_t *, size_t);
 uint64_t base_judge_trace(const uint8_t *, size_t, const uint8_t *, size_t, uint8_t *, size_t);
 uint64_t base_replay(const uint8_t *, size_t, const uint8_t *, size_t, uint32_t, const uint8_t *, size_t,
                      uint8_t *, size_t, uint8_t *, size_t);
 uint64_t base_rewrite(const uint8_t *, size_t, uint8_t *, size_t);
 
-enum { JUDGE, JUDGE_TRACE, REPLAY, REWRITE, CALLS };
+enum { JUDGE, ORDER, JUDGE_TRACE, REPLAY, REWRITE, CALLS };
 enum { LIBRARY, BASELINE };
 enum { LEAST_ROUNDS = 51, MOST_ROUNDS = 1001, MAX_WORKS = 40 };
 
-static const char *const call_names[CALLS] = { "judge", "judge_trace", "replay", "rewrite" };
+static const char *const call_names[CALLS] = { "judge", "order", "judge_trace", "replay", "rewrite" };
 
 struct work {
     char name[80];
@@ -57,6 +58,9 @@ static uint64_t perform(int who, const struct work *w)
     case JUDGE:
         return (who == LIBRARY ? sandgusset_judge : base_judge)(w->file, w->file_len, room16, SANDGUSSET_TRACE_BYTES,
                                                                 room32, SANDGUSSET_STAMP_BYTES);
+    case ORDER:
+        return (who == LIBRARY ? sandgusset_order : base_order)(w->file, w->file_len, room16, SANDGUSSET_TRACE_BYTES,
+                                                                room32, SANDGUSSET_ORDER_BYTES);
     case JUDGE_TRACE:
         return (who == LIBRARY ? sandgusset_judge_trace : base_judge_trace)(w->file, w->file_len, w->trace,
                                                                             w->trace_len, room32, sizeof room32);
@@ -167,8 +171,8 @@ static size_t stack_used(const struct work *w)
 /* The most that each call takes on any of the works, over what an empty call takes. */
 static void tell_stacks(void)
 {
-    static const size_t limits[CALLS] = { SANDGUSSET_STACK_JUDGE, SANDGUSSET_STACK_JUDGE_TRACE, SANDGUSSET_STACK_REPLAY,
-                                          SANDGUSSET_STACK_REWRITE };
+    static const size_t limits[CALLS] = { SANDGUSSET_STACK_JUDGE, SANDGUSSET_STACK_ORDER, SANDGUSSET_STACK_JUDGE_TRACE,
+                                          SANDGUSSET_STACK_REPLAY, SANDGUSSET_STACK_REWRITE };
     size_t empty = stack_used(NULL), most[CALLS] = { 0 };
     for (unsigned i = 0; i < work_count; i++) {
         size_t used = stack_used(&works[i]);
@@ -245,17 +249,20 @@ static unsigned any(unsigned least, unsigned most)
     return least + (seed >> 8) % (most - least + 1);
 }
 
+/* Where the two first transitions lie, of which the second always overtakes the first. */
+enum aside { PAST_CORE, OUT_OF_REACH };
+
 /* 32 states. States 1 to core are joined in a ring and by many other steps. Three steps of four are quick and have the
  * greatest delay or one less; the others have smaller delays, down to 1, and are just slow enough for D = U. The two
- * first transitions lead past the core: there the second always overtakes the first. So nothing turns, but that takes
- * all sums of all walks to see. A turning table has a slow bridge out of the core, last but two, to a quick loop with
- * the greatest delay and a way out with delay 1: only the bridge and what follows it can be overtaken. */
-static void full_table(struct work *w, unsigned transitions, unsigned most, int turning)
+ * first transitions lie aside. So nothing turns, or nothing is overtaken where those two are out of reach, but that
+ * takes all sums of all walks to see. A turning table has a slow bridge out of the core, last but two, to a quick loop
+ * with the greatest delay and a way out with delay 1: only the bridge and what follows it can be overtaken. */
+static void full_table(struct work *w, unsigned transitions, unsigned most, int turning, enum aside aside)
 {
     struct maker m = begin(w, 32);
     unsigned core = turning ? 28 : 29, last = turning ? transitions - 3 : transitions;
     seed = 12345;
-    add(&m, 0, 30, 1, 2, most);
+    add(&m, aside == PAST_CORE ? 0 : 30, 30, 1, 2, most);
     add(&m, 30, 31, 1, 2, 1);
     add(&m, 0, 1, 1, 2, most);
     for (unsigned s = 1; s <= core; s++)
@@ -297,6 +304,18 @@ static void everyday_table(struct work *w, int turning)
     end(&m);
 }
 
+/* A way of 31 steps, then a walk of 238: the longest witness. */
+static void longest_table(struct work *w)
+{
+    struct maker m = begin(w, 32);
+    for (unsigned s = 0; s < 31; s++)
+        add(&m, s, s + 1, 1, 2, 1);
+    add(&m, 31, 30, 1, 2, 240);
+    add(&m, 30, 30, 1, 2, 240);
+    add(&m, 30, 0, 1, 2, 1);
+    end(&m);
+}
+
 /* A dozen loops in one state. */
 static void loops_table(struct work *w, unsigned most, unsigned fall)
 {
@@ -325,11 +344,19 @@ static void make_works(void)
 {
     static const unsigned transitions[] = { 32, 64, 128, 192, 256 }, most[] = { 15, 30, 60, 120, 180, 240 };
     struct work *w;
-    full_table(new_work("judge: strict, 32 states, 256 transitions", JUDGE, 1.1, SANDGUSSET_STRICT), 256, 240, 0);
-    full_table(new_work("judge: turning, 32 states, 256 transitions", JUDGE, 1.1, SANDGUSSET_TURNING), 256, 240, 1);
+    full_table(new_work("judge: strict, 32 states, 256 transitions", JUDGE, 1.1, SANDGUSSET_STRICT), 256, 240, 0,
+               PAST_CORE);
+    full_table(new_work("judge: turning, 32 states, 256 transitions", JUDGE, 1.1, SANDGUSSET_TURNING), 256, 240, 1,
+               PAST_CORE);
     everyday_table(new_work("judge: strict, everyday, 12 transitions", JUDGE, 1.3, SANDGUSSET_STRICT), 0);
     everyday_table(new_work("judge: turning, everyday, 12 transitions", JUDGE, 1.3, SANDGUSSET_TURNING), 1);
-    full_table(new_work("rewrite: 4,620 bytes", REWRITE, 1.3, SANDGUSSET_WRITTEN), 256, 240, 0);
+    full_table(new_work("order: in order, 32 states, 256 transitions", ORDER, 1.1, SANDGUSSET_IN_ORDER), 256, 240, 0,
+               OUT_OF_REACH);
+    full_table(new_work("order: overtaken, 32 states, 256 transitions", ORDER, 1.1, SANDGUSSET_OVERTAKEN), 256, 240, 1,
+               OUT_OF_REACH);
+    everyday_table(new_work("order: in order, everyday, 12 transitions", ORDER, 1.3, SANDGUSSET_IN_ORDER), 0);
+    everyday_table(new_work("order: overtaken, everyday, 12 transitions", ORDER, 1.3, SANDGUSSET_OVERTAKEN), 1);
+    full_table(new_work("rewrite: 4,620 bytes", REWRITE, 1.3, SANDGUSSET_WRITTEN), 256, 240, 0, PAST_CORE);
     loops_table(w = new_work("replay: 512 steps, many overtakings", REPLAY, 1.3, SANDGUSSET_REPLAYED), 240, 20);
     long_trace(w, 12);
     loops_table(w = new_work("replay: 512 steps, no overtakings", REPLAY, 1.3, SANDGUSSET_REPLAYED), 240, 20);
@@ -343,13 +370,13 @@ static void make_works(void)
     for (unsigned i = 0; i < sizeof transitions / sizeof transitions[0]; i++) {
         char name[80];
         snprintf(name, sizeof name, "judge: strict, %u transitions, delays to 240", transitions[i]);
-        full_table(new_work(name, JUDGE, 0, SANDGUSSET_STRICT), transitions[i], 240, 0);
+        full_table(new_work(name, JUDGE, 0, SANDGUSSET_STRICT), transitions[i], 240, 0, PAST_CORE);
     }
     by_transitions = work_count;
     for (unsigned i = 0; i < sizeof most / sizeof most[0]; i++) {
         char name[80];
         snprintf(name, sizeof name, "judge: strict, 256 transitions, delays to %u", most[i]);
-        full_table(new_work(name, JUDGE, 0, SANDGUSSET_STRICT), 256, most[i], 0);
+        full_table(new_work(name, JUDGE, 0, SANDGUSSET_STRICT), 256, most[i], 0, PAST_CORE);
     }
     by_delay = work_count;
     /* for the stack only */
@@ -358,19 +385,16 @@ static void make_works(void)
     m.letters[0] = 0;
     add(&m, 0, 0, 3, 5, 9);
     end(&m);
-    /* a way of 31 steps, then a walk of 238: the longest witness */
-    m = begin(new_work("judge: longest witness", JUDGE, 0, SANDGUSSET_TURNING), 32);
-    for (unsigned s = 0; s < 31; s++)
-        add(&m, s, s + 1, 1, 2, 1);
-    add(&m, 31, 30, 1, 2, 240);
-    add(&m, 30, 30, 1, 2, 240);
-    add(&m, 30, 0, 1, 2, 1);
-    end(&m);
+    longest_table(new_work("judge: longest witness", JUDGE, 0, SANDGUSSET_TURNING));
+    longest_table(new_work("order: longest witness", ORDER, 0, SANDGUSSET_OVERTAKEN));
     loops_table(w = new_work("judge_trace: turning", JUDGE_TRACE, 0, SANDGUSSET_TURNING), 240, 21);
     long_trace(w, 12);
-    full_table(w = new_work("replay: 256 transitions, refused", REPLAY, 0, SANDGUSSET_BAD_TRACE), 256, 240, 0);
+    full_table(w = new_work("replay: 256 transitions, refused", REPLAY, 0, SANDGUSSET_BAD_TRACE), 256, 240, 0,
+               PAST_CORE);
     long_trace(w, 12);
-    full_table(w = new_work("judge: refused", JUDGE, 0, SANDGUSSET_BAD_RECORD), 256, 240, 0);
+    full_table(w = new_work("judge: refused", JUDGE, 0, SANDGUSSET_BAD_RECORD), 256, 240, 0, PAST_CORE);
+    w->file_len -= 1;
+    full_table(w = new_work("order: refused", ORDER, 0, SANDGUSSET_BAD_RECORD), 256, 240, 0, PAST_CORE);
     w->file_len -= 1;
 }
 

@@ -1,7 +1,35 @@
 /* The wrong versions that bench/sandgusset.c holds when it is compiled with -DSANDGUSSET_VARIANTS.
- * VARIANT(name, what it does wrong); the first has number 1. */
+ * VARIANT(name, what it does wrong); the first has number 1. TWIN names a mistake of the same list that here
+ * sandgusset_order makes alone, all other calls being right; its own name is ORDER_ and that one. */
 #ifndef SANDGUSSET_VARIANTS_H
 #define SANDGUSSET_VARIANTS_H
+
+#define SANDGUSSET_TWIN_LIST(TWIN, VARIANT) \
+    TWIN(VARIANT, WHOLE_TICKS, "order: tests whole ticks only") \
+    TWIN(VARIANT, NEIGHBOURS_ONLY, "order: tests neighbouring steps only, so another transition is the lowest") \
+    TWIN(VARIANT, GREATEST_V_ONLY, "order: keeps for each state only the walk with greatest V") \
+    TWIN(VARIANT, UNREACHABLE_JUDGED, "order: counts states that can't be reached") \
+    TWIN(VARIANT, WRITES_ON_READ, "order: writes to a lent room when the file is refused") \
+    TWIN(VARIANT, WRITES_ON_8, "order: writes to a room that is too short") \
+    TWIN(VARIANT, D_IS_U, "order: takes D = U for overtaken") \
+    TWIN(VARIANT, ROOM_ROUNDED_UP, "order: rounds room up to whole places") \
+    TWIN(VARIANT, ROOM_WHEN_NEEDED, "order: asks for room only if something is to be shown") \
+    TWIN(VARIANT, LENGTHS_32, "order: cuts lengths to 32 bits") \
+    TWIN(VARIANT, K_FROM_0, "order: counts K and M from 0") \
+    TWIN(VARIANT, EARLY_FROM_K, "order: begins the early steps at k") \
+    TWIN(VARIANT, UNUSED_CLEARED, "order: clears places that the result doesn't use") \
+    TWIN(VARIANT, HIGHEST_SHOWN, "order: shows the highest-numbered transition that can be overtaken") \
+    TWIN(VARIANT, WAY_LEFT_OUT, "order: shows a trace that begins with k, not in the initial state") \
+    TWIN(VARIANT, LIKE_OUTPUTS, "order: like outputs excuse overtaking") \
+    TWIN(VARIANT, LENGTH_P_ONLY, "order: looks only at tables that have a trace of length p") \
+    TWIN(VARIANT, SHORTCUT_BY_V, "order: takes d of k at most v + d of the next, for all neighbours, for enough") \
+    TWIN(VARIANT, FEW_ROWS, "order: looks for lower sums up to 127 only") \
+    TWIN(VARIANT, DELAYS_239, "order: doesn't look for D = 239") \
+    TWIN(VARIANT, REACH_30, "order: finds states within 30 steps only") \
+    TWIN(VARIANT, INITIAL_0, "order: takes state 0 for the initial state") \
+    TWIN(VARIANT, STRICT_TO_ALL, "order: useless: says in order to all") \
+    TWIN(VARIANT, REFUSES_ALL, "order: useless: refuses everything") \
+    TWIN(VARIANT, FIXED_TRACE, "order: useless: says overtaken with a fixed trace")
 
 #define SANDGUSSET_VARIANT_LIST(VARIANT) \
     VARIANT(WHOLE_TICKS, "tests whole ticks only") \
@@ -71,8 +99,38 @@
     VARIANT(FIRST_STEP_ONLY, "useless: replay orders the first step and copies the rest") \
     VARIANT(EMPTY_TABLE_READ, "useless: the reader always returns the empty table") \
     VARIANT(SHORT_SUMS, "keeps 16 bits of a sum of v, in ticks") \
-    VARIANT(SHORT_PARTS, "keeps 16 bits of a sum of v, in 1/256 tick")
+    VARIANT(SHORT_PARTS, "keeps 16 bits of a sum of v, in 1/256 tick") \
+    SANDGUSSET_TWIN_LIST(SANDGUSSET_VARIANT_OF_TWIN, VARIANT) \
+    VARIANT(ORDER_ASKS_V, "order: asks D <= V as well") \
+    VARIANT(ORDER_ALWAYS_ONLY, "order: counts only pairs that always respond in reverse") \
+    VARIANT(ORDER_U_FROM_K, "order: counts u of k in U") \
+    VARIANT(ORDER_U_BEFORE_M, "order: leaves u of m out of U") \
+    VARIANT(ORDER_SHORT_WALKS, "order: tries walks of at most 30 steps between k and m") \
+    VARIANT(ORDER_LEAVES_INITIAL, "order: tries only transitions that leave the initial state") \
+    VARIANT(ORDER_SPLIT_FIRST, "order: answers a split table as split") \
+    VARIANT(ORDER_SPLIT_IN_ORDER, "order: takes a split table for in order") \
+    VARIANT(ORDER_LOWEST_TURNING, "order: shows the lowest transition that turns, if one does") \
+    VARIANT(ORDER_LOWEST_END, "order: shows the lowest transition that overtakes") \
+    VARIANT(ORDER_LATE_WORD, "order: writes the late word") \
+    VARIANT(ORDER_BOTH_WORDS, "order: writes both words as the judge does, where there is room") \
+    VARIANT(ORDER_EARLY_ALWAYS, "order: takes u and 1/256 tick at every step") \
+    VARIANT(ORDER_EARLY_U, "order: takes u without 1/256 tick at the early steps") \
+    VARIANT(ORDER_FIRST_STAMP_0, "order: counts the word from its first step") \
+    VARIANT(ORDER_K_LATER, "order: names K one more") \
+    VARIANT(ORDER_NAMES_TRANSITIONS, "order: names the numbers of transitions, not of steps") \
+    VARIANT(ORDER_STEPS_UNNAMED, "order: names no steps") \
+    VARIANT(ORDER_STATUS_257, "order: answers with the status of turning") \
+    VARIANT(ORDER_GOES_ON, "order: shows a step after M") \
+    VARIANT(ORDER_GOES_ROUND, "order: goes round once, so that K is not the first place of its transition") \
+    VARIANT(ORDER_LONG_WAY, "order: shows more than 270 steps where more is lent") \
+    VARIANT(ORDER_WALK_LEFT_OUT, "order: shows m right after k") \
+    VARIANT(ORDER_WRITES_IN_ORDER, "order: writes a trace place though all is in order") \
+    VARIANT(ORDER_TRACE_269, "order: takes 269 trace places for enough") \
+    VARIANT(ORDER_STAMPS_269, "order: takes 269 stamp places for enough") \
+    VARIANT(ORDER_STAMPS_540, "order: asks for 540 stamp places") \
+    VARIANT(ORDER_STAMPS_BEFORE_8, "order: writes the stamps, then refuses a trace room that is too short")
 
+#define SANDGUSSET_VARIANT_OF_TWIN(VARIANT, name, what) VARIANT(ORDER_##name, what)
 #define SANDGUSSET_VARIANT_NUMBER(name, what) V_##name,
 enum { V_NONE, SANDGUSSET_VARIANT_LIST(SANDGUSSET_VARIANT_NUMBER) V_COUNT };
 

@@ -1,6 +1,6 @@
 /* sandgusset.h - judges controller tables from C.
  *
- * Four calls on plain numbers and byte buffers. Every call answers for every input, and its answer depends on what it
+ * Five calls on plain numbers and byte buffers. Every call answers for every input, and its answer depends on what it
  * is handed alone.
  *
  * WHAT IS LENT
@@ -22,10 +22,11 @@
  *   One 64-bit number that holds four fields of 16 bits, lowest first: status, first, second, steps. Fields that are
  *   not named for an answer are 0. Take it apart with sandgusset_status, _first, _second and _steps.
  *
- *   status 0           done: strict, steady, replayed or written (see each call)
+ *   status 0           done: strict, in order, steady, replayed or written (see each call)
  *   status 1 to 9      refused with this number; first is the place
  *   status 256         split (only sandgusset_judge)
  *   status 257         turning (sandgusset_judge and sandgusset_judge_trace)
+ *   status 258         overtaken (only sandgusset_order)
  *   sandgusset_text gives each of them in words.
  *
  * REFUSALS
@@ -69,14 +70,15 @@ extern "C" {
 #endif
 
 /* The version: a minor one adds calls and numbers, a major one changes what a call means (CHANGELOG.md). */
-#define SANDGUSSET_VERSION "1.1.0"
+#define SANDGUSSET_VERSION "1.2.0"
 #define SANDGUSSET_VERSION_MAJOR 1
-#define SANDGUSSET_VERSION_MINOR 1
+#define SANDGUSSET_VERSION_MINOR 2
 #define SANDGUSSET_VERSION_PATCH 0
 
 /* Values of the status field. */
-#define SANDGUSSET_DONE 0           /* strict, steady, replayed or written */
+#define SANDGUSSET_DONE 0           /* strict, in order, steady, replayed or written */
 #define SANDGUSSET_STRICT 0         /* sandgusset_judge: neither split nor turning */
+#define SANDGUSSET_IN_ORDER 0       /* sandgusset_order: no step can be overtaken */
 #define SANDGUSSET_STEADY 0         /* sandgusset_judge_trace: no pair of steps turns */
 #define SANDGUSSET_REPLAYED 0       /* sandgusset_replay */
 #define SANDGUSSET_WRITTEN 0        /* sandgusset_rewrite: first is the number of bytes */
@@ -91,18 +93,22 @@ extern "C" {
 #define SANDGUSSET_BAD_GAP 9        /* first: the step, counted from 1 */
 #define SANDGUSSET_SPLIT 256        /* first, second: transition numbers I and J; steps: length of the traces */
 #define SANDGUSSET_TURNING 257      /* first, second: step numbers K and M; steps: length of the trace */
+#define SANDGUSSET_OVERTAKEN 258    /* first, second: step numbers K and M; steps: length of the trace */
 
 /* Limits. */
 #define SANDGUSSET_MAX_FILE 4620        /* bytes of the longest table file */
 #define SANDGUSSET_MAX_STEPS 512        /* steps of the longest trace that is handed in */
-#define SANDGUSSET_TRACE_PLACES 270     /* trace places that sandgusset_judge needs: 540 bytes */
+#define SANDGUSSET_TRACE_PLACES 270     /* trace places that sandgusset_judge and sandgusset_order need: 540 bytes */
 #define SANDGUSSET_STAMP_PLACES 540     /* stamp places that sandgusset_judge needs: 2,160 bytes */
+#define SANDGUSSET_ORDER_PLACES 270     /* stamp places that sandgusset_order needs: 1,080 bytes */
 #define SANDGUSSET_TRACE_BYTES 540
 #define SANDGUSSET_STAMP_BYTES 2160
+#define SANDGUSSET_ORDER_BYTES 1080
 
 /* Bytes of stack: each call uses less. Not counted are some KB that the system's loader takes at a first call in a program
  * that binds its functions late (linked without -z now). */
 #define SANDGUSSET_STACK_JUDGE 69632
+#define SANDGUSSET_STACK_ORDER 40960
 #define SANDGUSSET_STACK_JUDGE_TRACE 20480
 #define SANDGUSSET_STACK_REPLAY 24576
 #define SANDGUSSET_STACK_REWRITE 15360
@@ -125,6 +131,23 @@ extern "C" {
  * A shown trace has at most 270 steps; which of several it is, is free. A table that is both is answered as split.
  * sandgusset_judge_trace on a shown trace may name another pair of steps: there K is the least of all. */
 uint64_t sandgusset_judge(const uint8_t *file, size_t file_len,
+                          uint8_t *trace, size_t trace_len,
+                          uint8_t *stamps, size_t stamps_len);
+
+/* Does a whole table keep the order of its requests: can no step respond before an earlier one? Refusals: 1 to 5, 8.
+ *
+ * Lend at least 270 trace places (540 bytes) and 270 stamp places (1,080 bytes), whatever the table is.
+ *
+ * in order   status 0. No trace from the initial state has, under any word that activates it, a step that responds
+ *            before an earlier one. Nothing is written.
+ * overtaken  status 258; first K, second M (steps of the shown trace, counted from 1), steps n = M. Trace places 0 to
+ *            n-1 hold a trace from the initial state. Stamp places 0 to n-1 hold the early word, under which M responds
+ *            before K: from stamp 0, u and 1/256 tick at steps K+1 to M, v elsewhere. Step K is the lowest-numbered
+ *            reachable transition that can be overtaken, at its first place in the shown trace.
+ * A shown trace has at most 270 steps; which of several it is, is free. Whether the table is split plays no part. A
+ * pair that always responds in reverse counts here and does not turn; so K may be another transition than that of
+ * sandgusset_judge, and a strict table may be overtaken. A table that turns is never in order. */
+uint64_t sandgusset_order(const uint8_t *file, size_t file_len,
                           uint8_t *trace, size_t trace_len,
                           uint8_t *stamps, size_t stamps_len);
 
@@ -194,6 +217,7 @@ static inline const char *sandgusset_text(unsigned status)
     case SANDGUSSET_BAD_GAP: return "a gap outside its guard";
     case SANDGUSSET_SPLIT: return "split: two transitions are open to one input at one time";
     case SANDGUSSET_TURNING: return "turning: two steps respond in either order";
+    case SANDGUSSET_OVERTAKEN: return "overtaken: a step can respond before an earlier one";
     default: return "unknown";
     }
 }

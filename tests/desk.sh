@@ -1,5 +1,5 @@
 #!/usr/bin/env bash
-# Tests what ./judge adds to document 01's lines: --explain, --widths, --page; and the help of every script.
+# Tests what ./judge adds to the documents' lines: --explain, --widths, --page, for both questions; and the help of every script.
 #
 #   tests/desk.sh
 #
@@ -9,6 +9,7 @@
 . "$(dirname "$0")/common.sh" || exit 1
 judge=$root/judge
 "$judge" <<<'states 1 initial 0' >/dev/null || exit 1
+"$judge" --order <<<'states 1 initial 0' >/dev/null || exit 1
 
 # run ARGUMENT...: calls the script on standard input; its output is in out and err, its status in $status.
 run() {
@@ -78,6 +79,45 @@ run --explain <<<'states 2 initial nowhere'
 [ "$status" -eq 2 ] && [ ! -s out ] && grep -q '^standard input:1: ' err
 verdict 'explained: a text without a file' $?
 
+# The same for --order.
+for name in flow-change download-narrow; do
+    run --order --explain "$root/examples/$name.table"
+    cmp -s out "$root/tests/desk/$name-order.out" && [ ! -s err ]
+    verdict "order, explained as stored: $name" $?
+done
+run --explain --order "$root/examples/source-trace.bin"
+[ "$status" -eq 1 ] && says '^overtaken 1 3$' 'step 3  transition 2:  2 -> 3' 'U < D, that is 25 < 30: with less than 30 ticks' 'So this pair turns' \
+    'step 3 has its request at 45+ and its response at 55+ ticks' '(3)\*  (1)\*' && ! grep -q '^  late \|, line' out
+verdict 'order, explained: a table file, and a pair that turns' $?
+run --order --explain <"$root/examples/inputs-a-b.table"
+says '^overtaken 1 2$' 'step 2  transition 2, line 18' 'U < D, that is 1 < 239' 'D > V, that is 239 > 2' 'So this pair is always reversed'
+verdict 'order, explained: the walk of least u, where the judge shows a long one' $?
+# The first step of a ring of 32 is overtaken by the last alone.
+{
+    echo 'states 32 initial 0'
+    for j in {0..30}; do
+        echo "$j -> $((j + 1)) input 0 output 0 (1,2] delay $((40 - j))"
+    done
+    echo '31 -> 0 input 0 output 0 (1,2] delay 8'
+} >ring
+run --order --explain <ring
+says '^overtaken 1 32$' '^  \.\. 19 more \.\.$' 'U < D, that is 31 < 32' '\.\.28\.\.  |31  |32\*' '28 of 32 steps are not drawn' &&
+    awk 'length > 130 { bad = 1 } END { exit bad }' out
+verdict 'order, explained: a long witness is shortened with a count' $?
+run --order --explain <<<'states 3 initial 0
+0 -> 1 input 0 output 1 (1,2] delay 13
+1 -> 2 input 0 output 2 (3,5] delay 10'
+[ "$status" -eq 0 ] && says '^in order$' '2 transitions, 3 of 3 states can be reached'
+verdict 'order, explained: D = U' $?
+run --order --explain <<<'states 2 initial 0
+1 -> 1 input 0 output 1 (1,2] delay 9
+1 -> 0 input 1 output 1 (1,2] delay 1'
+[ "$status" -eq 0 ] && says '^in order$' "can't be reached, and were not judged" 'transition 0, line 2' 'transition 1, line 3'
+verdict 'order, explained: what is not reached' $?
+bytes 0600 0100 0400 0000 0200 | run --order --explain
+[ "$status" -eq 2 ] && says '^refused 1 at 8$' '^The rule: A table file is'
+verdict 'order, explained: refused' $?
+
 # Names in any locale, and a file's name that is no UTF-8.
 printf 'state größe 0\nstates 1 initial 0\n\n0 -> größe input 0 output 送 (1,2] delay 3\n' >bad.table
 LC_ALL=C timeout 60 "$judge" bad.table >out 2>err
@@ -89,7 +129,7 @@ run --explain --page page.html $'\xff.bin'
 verdict 'a name that is no UTF-8' $?
 rm page.html
 
-# Every picture tells the truth: for random turning tables the responses stand in document 01's order.
+# Every picture tells the truth: for random turning tables the responses stand in document 01's order, in both timings and in the early one alone.
 cat >pictures.py <<'PYTHON'
 import random
 import sys
@@ -99,7 +139,7 @@ sys.dont_write_bytecode = True
 sys.path[:0] = [root + "/tools", root + "/tests"]
 import independent
 from desk import answers, picture, tables
-from desk.timing import Turn
+from desk.timing import Overtaking, Turn
 
 done = wrong = 0
 for seed in range(100000):
@@ -114,10 +154,14 @@ for seed in range(100000):
     k, m = pair
     rows = rows[:m]
     stamps = [independent.stamps_of(word) for word in (independent.late_word(rows), independent.early_word(rows, k, m))]
-    raw = f"turning {k} {m}\n" + "".join(f"{j + 1} {j} {a} {b}\n" for j, (a, b) in enumerate(zip(*stamps)))
     table = tables.Table(32, 0, [tables.Transition(*row) for row in rows])
-    lines = picture.drawn(Turn(answers.understood(raw.encode()), table))
-    for at, word in ((1, stamps[0]), (3, stamps[1])):
+
+    def picture_of(made, word, columns):
+        raw = f"{word} {k} {m}\n" + "".join(f"{j + 1} {j} {' '.join(map(str, row))}\n" for j, row in enumerate(zip(*columns)))
+        return picture.drawn(made(answers.understood(raw.encode()), table))
+
+    both, early = picture_of(Turn, "turning", stamps), picture_of(Overtaking, "overtaken", stamps[1:])
+    for lines, at, word in ((both, 1, stamps[0]), (both, 3, stamps[1]), (early, 1, stamps[1])):
         gaps = [b - a for a, b in zip([0] + word, word)]
         order = [step for _, step in independent.responses(gaps, rows, 256)]
         drawn = [int(label.strip("()* ")) for label in lines[at + 1].replace("responses", "").replace(")", ") ").split() if "(" in label]
@@ -125,7 +169,7 @@ for seed in range(100000):
         starred = lines[at].count("*") == 2 and lines[at + 1].count("*") == 2
         if drawn != [step for step in order if step in drawn] or asked != sorted(drawn) or not {k, m} <= set(drawn) or not starred:
             wrong += 1
-    if max(map(len, lines[:5])) > picture.WIDE:
+    if max(map(len, both[:5] + early[:3])) > picture.WIDE:
         wrong += 1
     if done == most:
         break
@@ -211,6 +255,16 @@ verdict 'page: refused' $?
 run --page page.html <<<'states 2 initial <b>'
 [ "$status" -eq 2 ] && well_formed page.html && grep -q 'standard input:1: ' page.html
 verdict 'page: a text without a file, its words being no elements' $?
+run --order --page page.html "$root/examples/flow-change.table"
+[ "$status" -eq 1 ] && well_formed page.html && [ "$(grep -c '<svg' page.html)" -eq 1 ] && [ "$(grep -c '<tr class="pair">' page.html)" -eq 2 ] &&
+    grep -q 'early timing: responses in the order of steps 2, 1' page.html && grep -q '<title>overtaken 1 2: ' page.html && ! grep -q alike page.html
+verdict 'page: overtaken' $?
+run --order --page page.html "$root/examples/split.table"
+[ "$status" -eq 0 ] && [ "$(cat out)" = 'in order' ] && well_formed page.html && ! grep -q '<svg' page.html && grep -q '<h1>In order: ' page.html
+verdict 'page: in order' $?
+run --order --widths --page other.html "$root/examples/flow-change.table"
+[ "$status" -eq 3 ] && [ ! -s out ] && [ ! -e other.html ] && grep -q 'does not go with --order' err
+verdict 'page: a wrong call writes none' $?
 cp "$root/examples/split.table" mine.table
 run --page mine.table mine.table
 [ "$status" -eq 3 ] && cmp -s mine.table "$root/examples/split.table" && grep -q 'is read from' err

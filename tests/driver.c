@@ -1,17 +1,17 @@
 /* Calls the library for the independent program.
  *
- * Link it with an archive or object that provides the four calls. It reads requests from standard input and answers on
+ * Link it with an archive or object that provides the calls. It reads requests from standard input and answers on
  * standard output until the input ends. Every lent buffer lies in its own pages, with forbidden pages right after it
  * or right before it, and guard bytes on the open side; pages of const buffers are read-only during the call. A call
  * that touches what it must not, aborts or runs too long is caught and reported as a signal.
  *
  * Request (little-endian):
  *   4 bytes  "SGRQ"
- *   1        call: 1 judge, 2 judge_trace, 3 replay, 4 rewrite
+ *   1        call: 1 judge, 2 judge_trace, 3 replay, 4 rewrite, 5 order
  *   1        layout: 0 forbidden pages right after each buffer, 1 right before, 2 guard bytes on both sides and an odd
  *            address (forbidden pages further off)
  *   1        1: empty buffers are NULL
- *   1        number of buffers: 3, 3, 5, 2, in the order of the call's arguments
+ *   1        number of buffers: 3, 3, 5, 2, 3, in the order of the call's arguments
  *   4        start stamp (replay only)
  *   and for each buffer
  *   8        length in bytes
@@ -206,8 +206,10 @@ static uint64_t perform(int call, uint32_t start, uint8_t *const *p, const size_
         return sandgusset_judge_trace(p[0], n[0], p[1], n[1], p[2], n[2]);
     case 3:
         return sandgusset_replay(p[0], n[0], p[1], n[1], start, p[2], n[2], p[3], n[3], p[4], n[4]);
-    default:
+    case 4:
         return sandgusset_rewrite(p[0], n[0], p[1], n[1]);
+    default:
+        return sandgusset_order(p[0], n[0], p[1], n[1], p[2], n[2]);
     }
 }
 
@@ -222,13 +224,14 @@ static int check_helpers(void)
         sandgusset_get32(b, 1) != 0x89ABCDEFu)
         return 0;
     return sandgusset_refused(1) && sandgusset_refused(9 | (uint64_t)3 << 16) && !sandgusset_refused(0) &&
-           !sandgusset_refused(SANDGUSSET_SPLIT) && !sandgusset_refused(SANDGUSSET_TURNING);
+           !sandgusset_refused(SANDGUSSET_SPLIT) && !sandgusset_refused(SANDGUSSET_TURNING) &&
+           !sandgusset_refused(SANDGUSSET_OVERTAKEN);
 }
 
 static void serve(void)
 {
-    static const int fixed[] = { 0, 1, 2, 3, 1 };    /* so many buffers, from the first, are const */
-    static const int wanted[] = { 0, 3, 3, 5, 2 };
+    static const int fixed[] = { 0, 1, 2, 3, 1, 1 };    /* so many buffers, from the first, are const */
+    static const int wanted[] = { 0, 3, 3, 5, 2, 3 };
     uint8_t head[12];
     while (take(head, sizeof head)) {
         volatile int outcome = 0;
@@ -237,7 +240,7 @@ static void serve(void)
         size_t lengths[BUFFERS];
         int call = head[4], layout = head[5], null_empty = head[6], count = head[7];
         uint32_t start = sandgusset_get32(head, 2);
-        if (memcmp(head, "SGRQ", 4) != 0 || call < 1 || call > 4 || layout > LOOSE || count != wanted[call])
+        if (memcmp(head, "SGRQ", 4) != 0 || call < 1 || call > 5 || layout > LOOSE || count != wanted[call])
             die("not a request");
         for (int i = 0; i < count; i++) {
             struct buffer *b = &buffers[i];

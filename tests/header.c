@@ -1,4 +1,4 @@
-/* Tries what sandgusset.h works out by itself: its version, the texts, a transition by its number.
+/* Tries what sandgusset.h works out by itself: its version, the texts, its numbers, a transition by its number.
  *
  * It prints what failed; the last line is 'N passed, 0 failed'. Files lie right before a forbidden page.
  */
@@ -32,7 +32,8 @@ static int known(unsigned status)
 
 static void try_texts(void)
 {
-    static const unsigned all[] = { 0, 1, 2, 3, 4, 5, 6, 7, 8, 9, SANDGUSSET_SPLIT, SANDGUSSET_TURNING };
+    static const unsigned all[] = { 0, 1, 2, 3, 4, 5, 6, 7, 8, 9, SANDGUSSET_SPLIT, SANDGUSSET_TURNING,
+                                    SANDGUSSET_OVERTAKEN };
     const size_t count = sizeof all / sizeof all[0];
     int own = 1;
     for (size_t i = 0; i < count; i++) {
@@ -42,7 +43,7 @@ static void try_texts(void)
     }
     verdict("every status has a text of its own", own);
     verdict("0 is done", strcmp(sandgusset_text(0), "done") == 0);
-    verdict("other numbers are unknown", !known(255) && !known(65535) && !known(65536 + 1));
+    verdict("other numbers are unknown", !known(255) && !known(259) && !known(65535) && !known(65536 + 1));
     verdict("a refusal's number goes with its text", strcmp(sandgusset_text(3), "more than 256 transitions") == 0);
 }
 
@@ -51,6 +52,25 @@ static void try_version(void)
     char text[40];
     snprintf(text, sizeof text, "%d.%d.%d", SANDGUSSET_VERSION_MAJOR, SANDGUSSET_VERSION_MINOR, SANDGUSSET_VERSION_PATCH);
     verdict("the version in text and in numbers", strcmp(text, SANDGUSSET_VERSION) == 0);
+}
+
+static int whole_kb(size_t bytes)
+{
+    return bytes > 0 && bytes % 1024 == 0;
+}
+
+static void try_numbers(void)
+{
+    verdict("0 is every good answer", SANDGUSSET_STRICT == 0 && SANDGUSSET_IN_ORDER == 0 && SANDGUSSET_STEADY == 0 &&
+                                          SANDGUSSET_REPLAYED == 0 && SANDGUSSET_WRITTEN == 0);
+    verdict("overtaken is 258, and no refusal", SANDGUSSET_OVERTAKEN == 258 && !sandgusset_refused(SANDGUSSET_OVERTAKEN));
+    verdict("places and their bytes", SANDGUSSET_TRACE_BYTES == 2 * SANDGUSSET_TRACE_PLACES &&
+                                          SANDGUSSET_STAMP_BYTES == 4 * SANDGUSSET_STAMP_PLACES &&
+                                          SANDGUSSET_ORDER_BYTES == 4 * SANDGUSSET_ORDER_PLACES);
+    verdict("the stack of each call, in whole KB", whole_kb(SANDGUSSET_STACK_JUDGE) && whole_kb(SANDGUSSET_STACK_ORDER) &&
+                                                       whole_kb(SANDGUSSET_STACK_JUDGE_TRACE) &&
+                                                       whole_kb(SANDGUSSET_STACK_REPLAY) &&
+                                                       whole_kb(SANDGUSSET_STACK_REWRITE));
 }
 
 /* ---- transitions ---- */
@@ -153,6 +173,7 @@ int main(void)
     make_file();
     try_version();
     try_texts();
+    try_numbers();
     try_cuts();
     try_damage();
     try_records();

@@ -1,14 +1,15 @@
 #!/usr/bin/env python3
-"""The independent program: tries the four calls against what document 01 says.
+"""The independent program: tries the calls against what documents 01 and 02 say.
 
     independent.py DRIVER [--cases N] [--seed S] [--only CASE] [--first] [--no-fixed] [--no-random] [--run PREFIX]
 
 It makes table files, traces, stamps and rooms, hands them to the calls through the C driver, and compares the answer
-and the final content of every lent buffer with what document 01 asks for. It is written from document 01 and keeps
-whole sets of sums where a quick judge would keep one number. Of a witness that document 01 leaves free it checks
-everything that is not free. The last line is 'N passed, 0 failed'; the status is 0 exactly if nothing failed.
+and the final content of every lent buffer with what the documents ask for. It is written from them and keeps whole sets
+of sums where a quick judge would keep one number. Of a witness that they leave free it checks everything that is not
+free. The last line is 'N passed, 0 failed'; the status is 0 exactly if nothing failed.
 """
 import argparse
+import heapq
 import itertools
 import os
 import random
@@ -25,13 +26,14 @@ import time
 
 MAX_STATES, MAX_TRANSITIONS, MAX_STEPS = 32, 256, 512
 MAX_LETTER, MAX_V, MAX_D = 255, 4095, 240
-TABLE_TRACE, TABLE_STAMPS = 270, 540
+TABLE_TRACE, TABLE_STAMPS, ORDER_STAMPS = 270, 540, 270
 TURN = 1 << 32                                  # one turn of the counter
-SPLIT, TURNING = 256, 257
-JUDGE, JUDGE_TRACE, REPLAY, REWRITE = 1, 2, 3, 4
-CALLS = {JUDGE: "judge", JUDGE_TRACE: "judge_trace", REPLAY: "replay", REWRITE: "rewrite"}
+SPLIT, TURNING, OVERTAKEN = 256, 257, 258
+JUDGE, JUDGE_TRACE, REPLAY, REWRITE, ORDER = 1, 2, 3, 4, 5
+CALLS = {JUDGE: "judge", JUDGE_TRACE: "judge_trace", REPLAY: "replay", REWRITE: "rewrite", ORDER: "order"}
 BUFFERS = {JUDGE: ("file", "trace", "stamps"), JUDGE_TRACE: ("file", "trace", "stamps"),
-           REPLAY: ("file", "trace", "stamps", "order", "due"), REWRITE: ("file", "out")}
+           REPLAY: ("file", "trace", "stamps", "order", "due"), REWRITE: ("file", "out"),
+           ORDER: ("file", "trace", "stamps")}
 LENGTH_OF_KIND = {1: 6, 2: 16, 3: 2}
 
 FROM, INPUT, OUTPUT, TO, U, V, D = range(7)     # the seven numbers of a transition
@@ -52,7 +54,7 @@ def unpack(answer):
 
 def show(answer):
     status, first, second, steps = unpack(answer)
-    names = {0: "done", SPLIT: "split", TURNING: "turning"}
+    names = {0: "done", SPLIT: "split", TURNING: "turning", OVERTAKEN: "overtaken"}
     return "%s (status %d, first %d, second %d, steps %d)" % (
         names.get(status, "refused %d" % status), status, first, second, steps)
 
@@ -166,7 +168,7 @@ def stamps_of(gaps, start=0):
 # Document 01: verdict on a table
 
 class Disagreement(Exception):
-    """Two readings of document 01 in this program differ: a fault of this program."""
+    """Two readings of the documents in this program differ: a fault of this program."""
 
 
 def reachable(table):
@@ -232,8 +234,9 @@ class Walks:
             self.at.append([a | b for a, b in zip(self.at[-1], row)])
 
 
-def find_turning(table):
-    """The lowest-numbered reachable transition that can be step k of a turning pair, or None."""
+def find_by_sets(table, upper):
+    """The lowest-numbered reachable transition that can be step k of a pair with U < D, and with D <= V if `upper` asks
+    for it (a turning pair); or None."""
     if not table.rows:
         return None
     reach = reachable(table)
@@ -251,12 +254,12 @@ def find_turning(table):
         for last in table.rows:
             difference = first[D] - last[D]
             room = difference - 1 - last[U]     # U < D: the walk before m has at most this sum of u
-            if room >= 0 and at[room][last[FROM]] >> max(0, difference - last[V]):
+            if room >= 0 and at[room][last[FROM]] >> (max(0, difference - last[V]) if upper else 0):
                 return k
     return None
 
 
-def find_turning_by_traces(table):
+def find_by_traces(table, upper):
     """The same by going through all walks one by one. None if there are too many, else (k or None,)."""
     reach = reachable(table)
     leaving = [[r for r in table.rows if r[FROM] == s] for s in range(table.states)]
@@ -271,7 +274,7 @@ def find_turning_by_traces(table):
                 budget -= 1
                 if budget < 0:
                     return None
-                if us + r[U] < first[D] - r[D] <= vs + r[V]:
+                if us + r[U] < first[D] - r[D] and (not upper or first[D] - r[D] <= vs + r[V]):
                     return (k,)
                 if us + r[U] < MAX_D:
                     todo.append((r[TO], us + r[U], vs + r[V]))
@@ -285,12 +288,84 @@ def judge(table):
         raise Disagreement("split by pairs and by words")
     if split is not None:
         return ("split",) + split
-    k = find_turning(table)
+    k = find_by_sets(table, True)
     if len(table.rows) <= 12:
-        other = find_turning_by_traces(table)
+        other = find_by_traces(table, True)
         if other is not None and other[0] != k:
             raise Disagreement("turning by sets and by traces")
     return ("strict",) if k is None else ("turning", k)
+
+
+# ---------------------------------------------------------------------------------------------------------------------
+# Document 02, R-1: does the table keep request order?
+
+def least_sums(leaving, start):
+    """The least sum of u of the walks from a state to each state (0 for the empty one), by Dijkstra."""
+    sums, todo = {}, [(0, start)]
+    while todo:
+        us, state = heapq.heappop(todo)
+        if state not in sums:
+            sums[state] = us
+            for r in leaving[state]:
+                heapq.heappush(todo, (us + r[U], r[TO]))
+    return sums
+
+
+def find_overtaken(table):
+    """The lowest-numbered reachable transition that can be overtaken, or None. Gaps can come as near to their u as one
+    likes, so a later step m can respond before k exactly if U < D; the least U to each m decides."""
+    reach = reachable(table)
+    leaving = [[r for r in table.rows if r[FROM] == s] for s in range(table.states)]
+    sums = {}
+    for k, first in enumerate(table.rows):
+        if first[FROM] not in reach:
+            continue
+        if first[TO] not in sums:
+            sums[first[TO]] = least_sums(leaving, first[TO])
+        for state, us in sums[first[TO]].items():
+            if any(us + last[U] < first[D] - last[D] for last in leaving[state]):
+                return k
+    return None
+
+
+def find_overtaken_by_words(table):
+    """The same by the sentence itself: every trace from the initial state under every word, up to two steps for each
+    state, gaps in as many parts of a tick. Longer traces show no other transition: a round on the way to k or between k
+    and m can be left out. Finer gaps don't either: fewer than q added parts stay below a tick. None if there are too many
+    words, else (k or None,)."""
+    q = 2 * table.states
+    leaving = [[(i, r) for i, r in enumerate(table.rows) if r[FROM] == s] for s in range(table.states)]
+    found, todo, budget = set(), [(table.initial, 0, ())], 6000
+    while todo:
+        state, now, dues = todo.pop()
+        for i, r in leaving[state] if len(dues) < q else ():
+            for gap in range(r[U] * q + 1, r[V] * q + 1):
+                budget -= 1
+                if budget < 0:
+                    return None
+                due = now + gap + r[D] * q
+                found.update(k for k, earlier in dues if due < earlier)
+                todo.append((r[TO], now + gap, dues + ((i, due),)))
+    return (min(found, default=None),)
+
+
+def overtaken_by_next(table):
+    """Is a reachable transition overtaken by one that can come right after it? Sums add up: so it is exactly if any is
+    overtaken at all."""
+    reach = reachable(table)
+    return any(a[FROM] in reach and a[TO] == b[FROM] and b[U] < a[D] - b[D] for a in table.rows for b in table.rows)
+
+
+def request_order(table):
+    """('in order',) or ('overtaken', transition)."""
+    k = find_overtaken(table)
+    if len(table.rows) <= 64 and (overtaken_by_next(table) != (k is not None) or find_by_sets(table, False) != k):
+        raise Disagreement("overtaken by least sums, by neighbours and by sets")
+    if len(table.rows) <= 12:
+        for other in (find_by_traces(table, False), find_overtaken_by_words(table)):
+            if other is not None and other[0] != k:
+                raise Disagreement("overtaken by least sums, by traces and by words")
+    return ("in order",) if k is None else ("overtaken", k)
 
 
 # ---------------------------------------------------------------------------------------------------------------------
@@ -343,7 +418,7 @@ class Want:
         if status == TURNING:
             return "turning"
         return "refused %d" % status if status else {JUDGE: "strict", JUDGE_TRACE: "steady", REPLAY: "replayed",
-                                                     REWRITE: "written"}[call]
+                                                     REWRITE: "written", ORDER: "in order"}[call]
 
     def text(self):
         if self.shown is not None:
@@ -366,7 +441,7 @@ class Want:
 
 def check_witness(table, verdict, answer, old, new):
     status, first, second, n = unpack(answer)
-    if status != {"split": SPLIT, "turning": TURNING}[verdict[0]]:
+    if status != {"split": SPLIT, "turning": TURNING, "overtaken": OVERTAKEN}[verdict[0]]:
         return "answer %s, wanted %s" % (show(answer), verdict)
     if not 1 <= n <= TABLE_TRACE:
         return "%d steps are shown" % n
@@ -403,25 +478,24 @@ def check_witness(table, verdict, answer, old, new):
         if not 1 <= k < m:
             return "K is %d, M is %d" % (k, m)
         if numbers[k - 1] != verdict[1]:
-            return "step K is transition %d, wanted the lowest that turns, %d" % (numbers[k - 1], verdict[1])
+            return "step K is transition %d, wanted the lowest that is %s, %d" % (numbers[k - 1], *verdict)
         if numbers.index(verdict[1]) != k - 1:
             return "K is not the first place of transition %d" % verdict[1]
-        late, early = u32s(new[2], n), u32s(new[2], n, 4 * n)
-        if late != stamps_of(late_word(rows)):
-            return "late word %s, wanted %s" % (late, stamps_of(late_word(rows)))
-        if early != stamps_of(early_word(rows, k, m)):
-            return "early word %s, wanted %s" % (early, stamps_of(early_word(rows, k, m)))
-        orders = []
-        for word in (late, early):
-            gaps = [b - a for a, b in zip([0] + word, word)]
+        words = [("early", early_word(rows, k, m), m, k)]
+        if verdict[0] == "turning":
+            words.insert(0, ("late", late_word(rows), k, m))
+        used = 0
+        for name, gaps, before, after in words:
+            stamps = u32s(new[2], n, used)
+            if stamps != stamps_of(gaps):
+                return "%s word %s, wanted %s" % (name, stamps, stamps_of(gaps))
+            gaps = [b - a for a, b in zip([0] + stamps, stamps)]
             if not activates(gaps, rows, 256):
-                return "a shown word does not activate the trace"
-            orders.append([step for _, step in responses(gaps, rows, 256)])
-        if not orders[0].index(k) < orders[0].index(m):
-            return "under the late word step K is not before step M"
-        if not orders[1].index(m) < orders[1].index(k):
-            return "under the early word step M is not before step K"
-        used = 8 * n
+                return "the %s word does not activate the trace" % name
+            order = [step for _, step in responses(gaps, rows, 256)]
+            if not order.index(before) < order.index(after):
+                return "under the %s word step %d is not before step %d" % (name, before, after)
+            used += 4 * n
     if new[2][used:] != old[2][used:]:
         return "an unused stamp place was changed"
     return None
@@ -430,16 +504,16 @@ def check_witness(table, verdict, answer, old, new):
 VERDICTS = {}
 
 
-def verdict_on(data, table):
-    if data not in VERDICTS:
+def verdict_on(call, data, table):
+    if (call, data) not in VERDICTS:
         if len(VERDICTS) > 500:
             VERDICTS.clear()
-        VERDICTS[data] = judge(table)
-    return VERDICTS[data]
+        VERDICTS[call, data] = judge(table) if call == JUDGE else request_order(table)
+    return VERDICTS[call, data]
 
 
 def law(call, start, bufs):
-    """What document 01 asks of a call with these buffers."""
+    """What the documents ask of a call with these buffers."""
     want = Want(bufs)
     number, table = read_file(bufs[0].data, bufs[0].length)
     if number:
@@ -453,12 +527,12 @@ def law(call, start, bufs):
             want.answer = pack(0, len(data))
             want.contents[1] = put(want.contents[1], data)
         return want
-    if call == JUDGE:
-        if bufs[1].length // 2 < TABLE_TRACE or bufs[2].length // 4 < TABLE_STAMPS:
+    if call in (JUDGE, ORDER):
+        if bufs[1].length // 2 < TABLE_TRACE or bufs[2].length // 4 < {JUDGE: TABLE_STAMPS, ORDER: ORDER_STAMPS}[call]:
             want.answer = pack(8)
             return want
-        verdict = verdict_on(bufs[0].data, table)
-        if verdict[0] != "strict":
+        verdict = verdict_on(call, bufs[0].data, table)
+        if len(verdict) > 1:
             want.shown = (table, verdict)
         return want
     rows = take_trace(table, bufs[1])
@@ -581,7 +655,7 @@ class Driver:
 
 
 class Case:
-    """One case. `pinned` is what document 01 itself prints for it, beside what the law says: an answer, or a function
+    """One case. `pinned` is what a document itself prints for it, beside what the law says: an answer, or a function
     of answer and contents that returns None or what is wrong."""
 
     def __init__(self, call, bufs, start=0, name="", pinned=None):
@@ -617,7 +691,7 @@ def try_case(driver, case, rng):
             if callable(case.pinned):
                 wrong = case.pinned(answer, contents)
             elif answer != case.pinned:
-                wrong = "answer %s, document 01 has %s" % (show(answer), show(case.pinned))
+                wrong = "answer %s, the document has %s" % (show(answer), show(case.pinned))
         if wrong is None:
             for name, guard, is_now in zip(names, guards, after):
                 if guard != is_now:
@@ -762,9 +836,9 @@ def shape_loop(rng):
     return finish(rng, states + 2, 0, rows, shuffle=rng.randrange(3) == 0)
 
 
-def shape_steady(rng, states=None, count=None):
-    """Delays that fall along a walk at most as fast as the lower sums grow, often exactly as fast: strict. Then perhaps
-    one number is changed by one."""
+def shape_steady(rng, states=None, count=None, reversed_end=True):
+    """Delays that fall along a walk at most as fast as the lower sums grow, often exactly as fast: strict and in order.
+    Then perhaps one number is changed by one, and perhaps two are added that are always reversed."""
     states = states or rng.randint(2, 10)
     count = count or rng.randint(1, 30)
     top = rng.choice((5, 20, 240))
@@ -784,7 +858,7 @@ def shape_steady(rng, states=None, count=None):
         row[4] = clip(row[4] - 1)
     elif change == 3 and row[2] > 1:
         row[2] -= 1
-    if rng.randrange(3) == 0 and states < MAX_STATES - 1:
+    if reversed_end and rng.randrange(3) == 0 and states < MAX_STATES - 1:
         rows.append([0, states, 1, 2, 240])     # always overtaken by the next, which ends there
         rows.append([states, states + 1, 1, 2, 1])
         states += 2
@@ -939,6 +1013,49 @@ def shape_wrapping(rng):
     if len(rows) >= MAX_STATES or rng.randrange(3) == 0:
         return finish(rng, 1, 0, [[0, 0] + row[2:] for row in rows], shuffle=False)
     return finish(rng, MAX_STATES, 0, rows, shuffle=False)
+
+
+def shape_words(rng):
+    """So small that every word can be tried."""
+    states = rng.choice((1, 1, 2, 2, 3))
+    rows = []
+    for _ in range(rng.randint(1, 4 - states) + 1):
+        u = rng.randint(1, 3)
+        rows.append([rng.randrange(states), rng.randrange(states), u, u + 1, rng.randint(1, 8)])
+    return finish(rng, states, rng.randrange(states), rows, rng.choice(("apart", "few")))
+
+
+def shape_order(rng):
+    """In order, or nearly so."""
+    return shape_steady(rng, reversed_end=False)
+
+
+def shape_far(rng):
+    """From k a long walk and a short one lead to m, the steps between responding no sooner than k; D next to the long
+    walk's U. Beside them what must not count: small delays before k, after another step, and where nothing leads."""
+    before, between = rng.choice((0, 0, 1, 2)), rng.choice((1, 2, 3, 5, 12, 22))
+    low = rng.choice((1, 2, 9)) if between < 20 else 9
+    guards = [guard_of(rng, low, rng.choice((1, 2, 30))) for _ in range(between + 1)]
+    us = sum(g[0] for g in guards)
+    dk, dm = delays(rng, us + rng.choice((-1, 0, 0, 1, 1, 2, 40)))
+    first, last = before + 1, before + 1 + between
+    end, side, hidden = last + 1, last + 2, last + 3
+    rows = [[before, first, *guard_of(rng, 4, 4), dk]]
+    for j, (u, v) in enumerate(guards[:-1]):
+        rows.append([first + j, first + j + 1, u, v, clip(dk + rng.choice((0, 0, 1, 9)))])
+    rows.append([last, end, *guards[-1], dm])
+    short = us - guards[-1][0] + rng.choice((-1, 0, 1, 5))
+    if between > 1 and rng.randrange(2):
+        rows.append([first, last, max(1, short), max(1, short) + rng.choice((1, 2)), dk])
+    rows += [[s, s + 1, *guard_of(rng, 3, 3), 1] for s in range(before)]
+    if rng.randrange(2):
+        rows.append([0, side, 1, 2, 1])
+    if rng.randrange(2):
+        rows += [[hidden, first, 1, 2, 1], [hidden, hidden, 1, 2, 1]]
+        rows.insert(0, [hidden, hidden, 1, 3, 240])
+    if rng.randrange(3) == 0:
+        rows.append([last, rng.randrange(first, last + 1), *guard_of(rng, 9, 9), dk])
+    return renamed(rng, finish(rng, hidden + 1, 0, rows, rng.choice(("apart", "any", "few")), rng.randrange(3) == 0))
 
 
 SMALL = (shape_tiny, shape_tiny, shape_tiny, shape_pair, shape_pair, shape_pair, shape_ways, shape_ways, shape_ways,
@@ -1110,11 +1227,11 @@ def damaged_file(rng):
 # ---------------------------------------------------------------------------------------------------------------------
 # Random cases: one function per kind
 
-def good_rooms(rng):
+def good_rooms(rng, stamps=TABLE_STAMPS):
     if rng.randrange(3):
-        return [rng.randbytes(540), rng.randbytes(2160)]
+        return [rng.randbytes(540), rng.randbytes(4 * stamps)]
     more = rng.choice((70, 70, 70, 70, 20000))
-    return [rng.randbytes(540 + rng.randint(0, more)), rng.randbytes(2160 + rng.randint(0, more))]
+    return [rng.randbytes(540 + rng.randint(0, more)), rng.randbytes(4 * stamps + rng.randint(0, more))]
 
 
 def case_judge(rng):
@@ -1221,9 +1338,40 @@ def case_rewrite_noise(rng):
     return Case(REWRITE, [data, rng.randbytes(rng.choice((4619, 4620, 4621, 9000)))])
 
 
+def order_case(rng, table):
+    return Case(ORDER, [write_file(table)] + good_rooms(rng, ORDER_STAMPS))
+
+
+def case_order(rng):
+    return order_case(rng, rng.choice(SMALL + (shape_words, shape_words, shape_order, shape_order, shape_order))(rng))
+
+
+def case_order_far(rng):
+    return order_case(rng, shape_far(rng))
+
+
+def case_order_many(rng):
+    return order_case(rng, shape_small_full(rng))
+
+
+def case_order_full(rng):
+    return order_case(rng, rng.choice((shape_full, shape_heavy, lambda r: shape_steady(r, 32, 256, False)))(rng))
+
+
+def case_order_wrapping(rng):
+    return order_case(rng, shape_wrapping(rng))
+
+
+def case_order_rooms(rng):
+    data = damaged_file(rng) if rng.randrange(3) == 0 else write_file(any_table(rng))
+    return Case(ORDER, [data, room(rng, 270, 2), room(rng, 270, 4)])
+
+
 KINDS = [(case_judge, 300), (case_judge_many, 12), (case_judge_full, 6), (case_judge_heavy, 2), (case_judge_rooms, 60),
          (case_trace, 200), (case_trace_wrong, 80), (case_replay, 160), (case_replay_wrong, 160), (case_rewrite, 60),
-         (case_rewrite_damaged, 160), (case_rewrite_noise, 30), (case_judge_wrapping, 12), (case_trace_wrapping, 12)]
+         (case_rewrite_damaged, 160), (case_rewrite_noise, 30), (case_judge_wrapping, 12), (case_trace_wrapping, 12),
+         (case_order, 140), (case_order_far, 60), (case_order_many, 8), (case_order_full, 10), (case_order_wrapping, 12),
+         (case_order_rooms, 40)]
 
 
 def random_case(seed, index):
@@ -1247,6 +1395,9 @@ def fixed_cases():
     def judged(name, table, pinned=None):
         add(name, JUDGE, write_file(table), rng.randbytes(540), rng.randbytes(2160), pinned=pinned)
 
+    def ordered(name, table, pinned=None):
+        add("order: " + name, ORDER, write_file(table), rng.randbytes(540), rng.randbytes(1080), pinned=pinned)
+
     def u16(*numbers):
         return struct.pack("<%dH" % len(numbers), *numbers)
 
@@ -1268,14 +1419,26 @@ def fixed_cases():
 
         def check(got, after):
             if got != answer:
-                return "answer %s, document 01 has %s" % (show(got), show(answer))
+                return "answer %s, the document has %s" % (show(got), show(answer))
             for name, data in contents.items():
                 if after[names[name]][:len(data)] != data:
-                    return "%s differs from document 01" % name
+                    return "%s differs from the document" % name
             return None
         return check
 
-    strict, steady = pack(0), pack(0)
+    def showing(trace, k):
+        """The one trace that can be shown, its k-th step overtaken by its last one."""
+        return exactly(pack(OVERTAKEN, k, len(trace), len(trace)), trace=u16(*trace))
+
+    def by(first, last=None):
+        """Which transitions the shown pair has."""
+        def check(answer, after):
+            _, k, _, steps = unpack(answer)
+            trace = u16s(after[1], steps)
+            return None if trace[k - 1] == first and last in (None, trace[-1]) else "not the pair that was expected"
+        return check
+
+    strict, steady, in_order = pack(0), pack(0), pack(0)
 
     # --- document 01: the whole case
     whole = Table(4, 0, [(0, 0, 1, 1, 5, 20, 40), (1, 0, 2, 2, 15, 20, 30), (2, 0, 3, 3, 10, 15, 10)])
@@ -1324,18 +1487,20 @@ def fixed_cases():
     add("empty file, no rooms: refused 1 at 0 (judge_trace)", JUDGE_TRACE, b"", b"", b"", pinned=pack(1))
     add("empty file, no rooms: refused 1 at 0 (replay)", REPLAY, b"", b"", b"", b"", b"", pinned=pack(1))
     add("empty file, no rooms: refused 1 at 0 (rewrite)", REWRITE, b"", b"", pinned=pack(1))
+    add("empty file, no rooms: refused 1 at 0 (order)", ORDER, b"", b"", b"", pinned=pack(1))
 
     # --- the reader: every cut, every changed bit, every limit
     for cut in range(len(file)):
         for call in CALLS:
             add("whole case cut to %d bytes (%s)" % (cut, CALLS[call]), call, file[:cut],
-                *(rng.randbytes(6 if b == "trace" and call != JUDGE else 2160) for b in BUFFERS[call][1:]))
+                *(rng.randbytes(6 if b == "trace" and call not in (JUDGE, ORDER) else 2160) for b in BUFFERS[call][1:]))
     for bit in range(8 * len(file)):
         changed = bytearray(file)
         changed[bit // 8] ^= 1 << bit % 8
         rewritten("whole case with bit %d changed" % bit, bytes(changed))
-        add("whole case with bit %d changed (judge)" % bit, JUDGE, bytes(changed), rng.randbytes(540),
-            rng.randbytes(2160))
+        for call in (JUDGE, ORDER):
+            add("whole case with bit %d changed (%s)" % (bit, CALLS[call]), call, bytes(changed), rng.randbytes(540),
+                rng.randbytes(2160))
     head, end = record(1, (3, 1)), record(3, ())
     middle = record(2, (0, 7, 8, 2, 3, 4, 5))
     rewritten("head alone: 1 at 8", head, pack(1, 8))
@@ -1392,7 +1557,9 @@ def fixed_cases():
         rewritten(name, longer + end, pack(number, 4616))
         rewritten(name + " (no end)", longer, pack(number, 4616))
         rewritten(name[:-1] + "1, being cut", longer[:-1], pack(1, 4616))
-        add(name + " (judge)", JUDGE, longer + end, rng.randbytes(540), rng.randbytes(2160), pinned=pack(number, 4616))
+        for call in (JUDGE, ORDER):
+            add("%s (%s)" % (name, CALLS[call]), call, longer + end, rng.randbytes(540), rng.randbytes(2160),
+                pinned=pack(number, 4616))
     rewritten("256 transitions, no end: 1", full[:-4], pack(1, 4616))
     rewritten("256 transitions and a byte: 2", full + b"\0", pack(2, 4620))
     rewritten("256 transitions and 70,000 bytes: 2", full + bytes(70000), pack(2, 4620))
@@ -1514,6 +1681,8 @@ def fixed_cases():
     traced("k is step 1, m is step 121 at the least", long_pair, [0] * 120 + [1], pack(TURNING, 1, 121, 121))
     traced("V = 238 is too little for D = 239", long_pair, [0] * 119 + [1], steady)
     traced("the pair stands at the end of 512 steps", long_pair, [1] * 391 + [0] * 120 + [1], pack(TURNING, 392, 512, 512))
+    traced("V = 65,546 with 16 steps of v = 4,095", Table(1, 0, [(0, 0, 1, 0, 1, MAX_V, 200), (0, 1, 2, 0, 1, 26, 100)]),
+           [0] * 17 + [1], pack(TURNING, 1, 18, 18))
     traced("like outputs don't excuse turning", Table(2, 0, [(0, 0, 9, 1, 1, 2, 9), (1, 0, 9, 1, 1, 7, 2)]), (0, 1),
            pack(TURNING, 1, 2, 2))
 
@@ -1574,6 +1743,127 @@ def fixed_cases():
     judged("the greatest sums of v",
            Table(2, 0, [(0, 0, 1, 1, 1, 4095, 240), (1, 0, 1, 1, 1, 4095, 240), (1, 1, 1, 0, 1, 4095, 1)]))
 
+    # --- document 02, R-1
+    ordered("the whole case is overtaken 1 3", whole,
+            exactly(pack(OVERTAKEN, 1, 3, 3), trace=u16(0, 1, 2), stamps=u32(5120, 8961, 11522)))
+    ordered("a table without transitions", Table(1, 0, []), in_order)
+    ordered("32 states, no transitions", Table(32, 31, []), in_order)
+    ordered("one transition", one, in_order)
+    ordered("equal delays everywhere",
+            Table(3, 0, [(0, 0, 1, 1, 1, 2, 240), (1, 0, 2, 2, 1, 4095, 240), (2, 0, 3, 0, 1, 9, 240),
+                         (2, 1, 4, 2, 1, 2, 240)]), in_order)
+    ordered("256 transitions with equal delays", Table(32, 0, many), in_order)
+    for difference in (-2, 0, 1, 2, 3, 4, 5, 6, 200):
+        two = Table(3, 0, [(0, 0, 1, 1, 2, 7, 20 + difference), (1, 0, 2, 2, 3, 5, 20)])
+        ordered("second guard (3,5], D = %d" % difference, two, showing((0, 1), 1) if difference > 3 else in_order)
+    for guard, taken in (((238, 239), 1), ((238, 4095), 1), ((1, 2), 1), ((239, 240), 0), ((4094, 4095), 0)):
+        ordered("D = 239, guard (%d,%d]" % guard, Table(3, 0, [(0, 0, 1, 1, 1, 2, 240), (1, 0, 2, 2, *guard, 1)]),
+                showing((0, 1), 1) if taken else in_order)
+    ordered("the early word takes v to the first step",
+            Table(4, 0, [(0, 0, 1, 1, 3, 9, 1), (1, 0, 2, 2, 2, 5, 30), (2, 0, 3, 3, 1, 7, 20)]),
+            exactly(pack(OVERTAKEN, 2, 3, 3), trace=u16(0, 1, 2), stamps=u32(2304, 3584, 3841)))
+    for guard, ds, taken in (((2, 3), (9, 9, 5), 0), ((2, 3), (10, 10, 5), 1), ((3, 4), (13, 13, 5), 1)):
+        walk = Table(4, 0, [(0, 0, 1, 1, 2, 3, ds[0]), (1, 1, 2, 2, 2, 3, ds[1]), (2, 2, 3, 3, *guard, ds[2])])
+        ordered("two steps with the last guard (%d,%d] and D = %d" % (*guard, ds[0] - ds[2]), walk,
+                showing((0, 1, 2), 1) if taken else showing((0, 1, 2), 2))
+    ordered("overtaken, though never on whole ticks",
+            Table(4, 0, [(0, 0, 1, 1, 1, 3, 9), (1, 0, 2, 2, 1, 3, 8), (2, 0, 3, 3, 1, 3, 6)]), showing((0, 1, 2), 1))
+    ordered("the end of the loop of 121 steps", long_loop, by(0, 2))
+    ordered("the dead end", Table(3, 0, dead_end), showing((0, 1), 1))
+    for initial in (1, 2):
+        ordered("the dead end from state %d" % initial, Table(3, initial, dead_end), in_order)
+    ordered("like letters count", Table(2, 0, [(0, 5, 9, 1, 1, 2, 9), (1, 5, 9, 1, 1, 7, 2)]))
+
+    # what the table verdict says plays no part
+    for name, table, verdict, pinned in (
+            ("always reversed", Table(3, 0, [(0, 0, 1, 1, 1, 2, 240), (1, 0, 2, 2, 1, 2, 1)]), strict, showing((0, 1), 1)),
+            ("another lowest transition",
+             Table(5, 0, [(2, 0, 1, 3, 1, 2, 40), (0, 0, 2, 1, 1, 2, 60), (1, 0, 3, 2, 15, 30, 40), (3, 0, 4, 4, 1, 2, 1)]),
+             by(1), showing((1, 2, 0, 3), 3)),
+            ("split and in order", Table(1, 0, [(0, 0, 1, 0, 1, 4, 9), (0, 0, 2, 0, 3, 5, 9)]), pack(SPLIT, 0, 1, 1),
+             in_order),
+            ("split in its output alone, in order", Table(1, 0, [(0, 0, 1, 0, 1, 4, 9), (0, 0, 2, 0, 1, 4, 9)]),
+             pack(SPLIT, 0, 1, 1), in_order),
+            ("split and overtaken", Table(3, 0, [(0, 0, 1, 1, 1, 4, 9), (0, 0, 2, 2, 3, 5, 20), (2, 0, 3, 2, 1, 2, 9)]),
+             pack(SPLIT, 0, 1, 1), by(1, 2)),
+            ("split only after the pair",
+             Table(3, 0, [(0, 0, 1, 1, 1, 4, 20), (1, 0, 2, 2, 3, 5, 9), (2, 0, 3, 2, 1, 4, 9), (2, 0, 4, 2, 1, 4, 9)]),
+             pack(SPLIT, 2, 3, 3), by(0)),
+            ("split, the pair being apart from it",
+             Table(3, 0, [(0, 0, 1, 1, 1, 2, 9), (0, 0, 2, 1, 1, 2, 9), (0, 1, 3, 2, 1, 2, 30), (2, 0, 4, 2, 1, 2, 9)]),
+             pack(SPLIT, 0, 1, 1), by(2, 3))):
+        judged("%s: the table verdict" % name, table, verdict)
+        ordered(name, table, pinned)
+
+    # which transitions count
+    ordered("one that can't be reached is overtaken", Table(3, 1, [(0, 0, 1, 1, 1, 2, 90), (1, 0, 2, 1, 1, 9, 5)]),
+            in_order)
+    ordered("one that can't be reached, then one that can",
+            Table(4, 1, [(0, 0, 1, 1, 1, 2, 90), (1, 0, 2, 2, 1, 9, 9), (2, 0, 3, 3, 1, 2, 5)]), showing((1, 2), 1))
+    ordered("a small delay where nothing leads",
+            Table(4, 0, [(0, 0, 1, 1, 1, 2, 90), (1, 0, 2, 1, 1, 2, 90), (2, 0, 3, 1, 1, 2, 1), (1, 1, 4, 3, 90, 91, 3)]),
+            in_order)
+    ordered("a small delay before", Table(3, 0, [(0, 0, 1, 1, 1, 2, 1), (1, 0, 2, 2, 1, 2, 240)]), in_order)
+    ordered("a small delay in a side branch", Table(3, 0, [(0, 0, 1, 1, 1, 2, 90), (0, 1, 2, 2, 1, 2, 1)]), in_order)
+    ordered("a small delay in a loop before",
+            Table(2, 0, [(0, 0, 1, 0, 1, 2, 1), (0, 1, 2, 1, 1, 2, 90), (1, 0, 3, 1, 1, 2, 90)]), in_order)
+    ordered("a round leads back to a small delay",
+            Table(3, 0, [(0, 0, 1, 1, 1, 2, 1), (1, 0, 2, 2, 1, 2, 90), (2, 0, 3, 0, 80, 90, 90)]))
+    ordered("the round is too long by one",
+            Table(3, 0, [(0, 0, 1, 1, 1, 2, 1), (1, 0, 2, 2, 1, 2, 90), (2, 0, 3, 0, 88, 90, 2)]), in_order)
+    ordered("a loop with a pair in it", Table(1, 0, [(0, 0, 1, 0, 1, 2, 9), (0, 1, 2, 0, 2, 9, 4)]))
+    ordered("the initial state is not state 0",
+            Table(3, 2, [(0, 0, 1, 1, 1, 2, 9), (2, 0, 2, 0, 4, 5, 3), (1, 0, 3, 1, 3, 4, 4)]), showing((1, 0, 2), 2))
+
+    # the lowest one
+    ordered("the next step overtakes a later transition, a longer walk the lowest",
+            Table(5, 0, [(1, 0, 1, 2, 1, 2, 50), (2, 0, 2, 3, 6, 7, 60), (3, 0, 3, 4, 7, 8, 36), (0, 0, 4, 1, 1, 2, 1)]),
+            showing((3, 0, 1, 2), 2))
+    ordered("the lowest is out of reach by one",
+            Table(5, 0, [(1, 0, 1, 2, 1, 2, 50), (2, 0, 2, 3, 6, 7, 60), (3, 0, 3, 4, 7, 8, 37), (0, 0, 4, 1, 1, 2, 1)]),
+            showing((3, 0, 1, 2), 3))
+    ordered("the lowest number is not the first on the way",
+            Table(4, 0, [(2, 0, 1, 3, 3, 4, 5), (1, 0, 2, 2, 1, 2, 9), (0, 0, 3, 1, 1, 2, 20)]), showing((2, 1, 0), 2))
+    ordered("only the longer walk has the lesser U",
+            Table(5, 0, [(0, 0, 1, 1, 1, 2, 30), (1, 0, 2, 2, 20, 21, 30), (1, 1, 3, 3, 2, 90, 30),
+                         (3, 0, 4, 2, 3, 90, 30), (2, 0, 5, 4, 10, 11, 10)]), showing((0, 2, 3, 4), 1))
+    ordered("only the walk with the greater V has the lesser U",
+            Table(4, 0, [(0, 0, 1, 1, 1, 2, 30), (1, 0, 2, 2, 10, 11, 30), (1, 1, 3, 2, 9, 4095, 30),
+                         (2, 0, 4, 3, 10, 11, 10)]), showing((0, 2, 3), 1))
+    ordered("the pair does not stand at the least delay",
+            Table(4, 0, [(0, 0, 1, 1, 1, 2, 30), (1, 0, 2, 2, 29, 30, 1), (1, 1, 3, 3, 9, 10, 20)]), showing((0, 2), 1))
+
+    # as many steps as are ever needed: 31 to the first, and 32 from it through every state
+    for text, way, second, last in (("", 1, 1, 32), (" numbered backwards", -1, 2, 1)):
+        for u, less in ((1, 33), (7, 225), (1, 32)):
+            chain = [(s, 0, 1, s + 1, u, u + 1, 240) for s in range(31)] + [(31, 0, 2, 0, u, u + 1, 240 - less)]
+            ordered("32 steps of u = %d, D = %d%s" % (u, less, text),
+                    Table(32, 0, [(0, 9, 3, 0, 1, 2, 240)] + chain[::way]), by(0 if less > 32 * u else second, last))
+        chain = [(s, 0, 1, s + 1, 1, 2, 240) for s in range(31)]
+        far = Table(32, 0, [(31, 0, 2, 0, 1, 2, 240)] + chain[::way] + [(31, 1, 3, 31, 1, 2, 207)])
+        ordered("31 steps before the first, 32 after it" + text, far, by(0, 32))
+    for us in ([MAX_V - 1] * 16 + [7], [4, 227]):     # 25 less than 65,536 and 256
+        rows = [(j, 0, 1, j + 1, u, u + 1, 50) for j, u in enumerate([1] + us)]
+        ordered("D = 30, U = %d" % (sum(us) + 40),
+                Table(32, 0, rows + [(len(rows), 0, 2, len(rows) + 1, 40, 41, 20)]), in_order)
+
+    # room, and what is refused first
+    for what, data in (("in order", write_file(one)), ("overtaken", file), ("split", split_table),
+                       ("overtaken after 31 steps", write_file(far))):
+        for trace, stamps in ((0, 0), (540, 0), (0, 1080), (538, 1080), (539, 1080), (540, 1076), (540, 1079), (539, 1079),
+                              (538, 2160), (1080, 1076), (540, 1080), (541, 1080), (540, 1083), (541, 1081), (600, 2160)):
+            add("order: a table that is %s with %d and %d bytes of room" % (what, trace, stamps), ORDER, data,
+                rng.randbytes(trace), rng.randbytes(stamps), pinned=None if trace >= 540 and stamps >= 1080 else pack(8))
+    add("order: room for more than 270 steps, and a loop before the first", ORDER,
+        write_file(Table(2, 0, [(0, 0, 1, 1, 1, 2, 90), (1, 0, 2, 1, 1, 2, 5), (0, 1, 3, 0, 1, 2, 1)])),
+        rng.randbytes(1080), rng.randbytes(2160))
+    for name, data, number in (("a cut file", file[:60], pack(1, 44)), ("a byte after the end", file + b"\0", pack(2, 66)),
+                               ("a number out of range", head + record(2, (0, 7, 8, 2, 4, 4, 5)) + end, pack(4, 8)),
+                               ("a repeated transition", head + middle + middle + end, pack(5, 26))):
+        for trace, stamps in ((0, 0), (539, 1079), (540, 1080)):
+            add("order: %s with %d and %d bytes of room" % (name, trace, stamps), ORDER, data, rng.randbytes(trace),
+                rng.randbytes(stamps), pinned=number)
+
     # --- lengths that don't fit 32 bits
     big = 1 << 32
     add("a file of 2^32 + 66 bytes", REWRITE, Buf(file, big + 66), rng.randbytes(100), pinned=pack(2, 66))
@@ -1592,7 +1882,11 @@ def fixed_cases():
     add("a room of 2^32 + 1 bytes for a file", REWRITE, file, Buf(rng.randbytes(66), big + 1), pinned=pack(0, 66))
     add("rooms of 2^32 bytes for replay", REPLAY, file, three, stamps, Buf(rng.randbytes(6), big),
         Buf(rng.randbytes(12), big), pinned=pack(0))
-    # what document 01 has and what has a name first
+    add("order: rooms of 2^32 + 1 bytes", ORDER, file, Buf(rng.randbytes(540), big + 1), Buf(rng.randbytes(1080), big + 1),
+        pinned=pack(OVERTAKEN, 1, 3, 3))
+    add("order: a file of 2^32 + 66 bytes", ORDER, Buf(file, big + 66), rng.randbytes(540), rng.randbytes(1080),
+        pinned=pack(2, 66))
+    # what the documents have and what has a name first
     return sorted(cases, key=lambda c: c.name.startswith(("whole case cut", "whole case with bit")))
 
 
@@ -1615,9 +1909,9 @@ def describe(case):
 
 
 def main():
-    parser = argparse.ArgumentParser(description="Tries the four calls against what document 01 says.")
+    parser = argparse.ArgumentParser(description="Tries the calls against what documents 01 and 02 say.")
     parser.add_argument("driver", help="the C driver, linked with what is to be tried")
-    parser.add_argument("--cases", type=int, default=10000, help="number of random cases (default 10000)")
+    parser.add_argument("--cases", type=int, default=12000, help="number of random cases (default 12000)")
     parser.add_argument("--seed", type=int, default=1, help="seed of the random cases (default 1)")
     parser.add_argument("--only", help="try one case: the number of a random one, or the name of a fixed one")
     parser.add_argument("--first", action="store_true", help="stop at the first failure")

@@ -1,8 +1,9 @@
 #!/usr/bin/env bash
-# Tests ./judge and the program that it builds: what is printed for tables of every
-# verdict, for texts and for damaged files, input that is long or comes in pieces, and
-# what the script does about wrong calls and failed builds. The answers are worked out
-# from document 01; where it leaves the trace free, the shortest way to step k is shown.
+# Tests ./judge and the programs that it builds: what is printed for tables of every
+# verdict and order, for texts and for damaged files, input that is long or comes in
+# pieces, and what the script does about wrong calls and failed builds. The answers are
+# worked out from the documents; where these leave the trace free, the shortest way to
+# step k is shown.
 #
 #   tests/judge.sh
 #
@@ -13,16 +14,19 @@
 judge=$root/judge
 table=$root/tools/table
 
-# The program is built now, so that later calls have nothing to say on standard error.
+# The programs are built now, so that later calls have nothing to say on standard error.
 "$judge" <<<'states 1 initial 0' >/dev/null || exit 1
+"$judge" --order <<<'states 1 initial 0' >/dev/null || exit 1
 
-# The program itself, as ./judge runs it.
+# The programs themselves, as ./judge runs them.
 PYTHONPATH=$root/tools python3 -B -m desk.program | mapfile -t program
-[ "${#program[@]}" -gt 1 ] || exit 1
+PYTHONPATH=$root/tools python3 -B -m desk.program order | mapfile -t order_program
+[ "${#program[@]}" -gt 1 ] && [ "${#order_program[@]}" -gt 1 ] || exit 1
 
 # run ARGUMENT...: calls the script on standard input; its output is in out and err, its status in $status.
+options=()  # of every call
 run() {
-    timeout 120 "$judge" "$@" >out 2>err
+    timeout 120 "$judge" "${options[@]}" "$@" >out 2>err
     status=$?
 }
 
@@ -31,7 +35,7 @@ run() {
 printed() {
     local name=$1 wanted=1
     shift
-    case $1 in strict) wanted=0 ;; refused*) wanted=2 ;; esac
+    case $1 in strict | 'in order') wanted=0 ;; refused*) wanted=2 ;; esac
     printf '%s\n' "$@" | cmp -s - out && [ "$status" -eq "$wanted" ] && { [ "$wanted" -eq 2 ] || [ ! -s err ]; } &&
         { [ "$wanted" -ne 2 ] || [ -s err ]; }
     verdict "$name" $?
@@ -52,6 +56,12 @@ judged() {
     printed "$name" "$@"
     run judged.table
     printed "$name (text)" "$@"
+}
+
+# ordered NAME LINE...: the same for the answer to --order.
+ordered() {
+    local options=(--order)
+    judged "order: $@"
 }
 
 # trouble PATTERN NAME: the last run printed nothing, had status 3 and said so.
@@ -102,7 +112,7 @@ for text in "$root"/examples/*.table; do
         printed "example $name" strict
     fi
 done
-[ "$examples" -ge 6 ]
+[ "$examples" -ge 7 ]
 verdict 'the examples were there' $?
 
 # ---- Strict and turning: U < D <= V ----
@@ -166,6 +176,79 @@ judged 'least I, then least J' 'split 1 4' '1 3 3 1024' '2 1 4 1536' <<<'states 
 0 -> 1 input 0 output 1 (2,4] delay 1
 1 -> 1 input 0 output 2 (1,3] delay 1
 1 -> 0 input 0 output 3 (1,4] delay 1'
+
+# ---- Order: U < D, whatever V is ----
+
+order_lines=('overtaken 1 3' '1 0 5120' '2 1 8961' '3 2 11522')
+run --order source.bin
+printed 'order: whole case' "${order_lines[@]}"
+run source.bin --order
+printed 'order: the option after the file' "${order_lines[@]}"
+cmp -s source.bin "$root/crates/order/stdin" && printf '%s\n' "${order_lines[@]}" | cmp -s - "$root/crates/order/stdout"
+verdict 'order: the whole case is the stored case of the program' $?
+for name in download-narrow split touching; do
+    run --order "$root/examples/$name.table"
+    printed "order: example $name" 'in order'
+done
+run --order "$root/examples/download-wide.bin"
+printed 'order: example download-wide' 'overtaken 2 3' '1 0 153600' '2 4 179200' '3 5 179713'
+run --order "$root/examples/flow-change.table"
+mapfile -t lines < <(sed -n 's/^#     //p' "$root/examples/flow-change.table")
+printed 'order: a strict example that is overtaken' "${lines[@]}"
+
+ordered 'no transitions' 'in order' <<<'states 1 initial 0'
+for delay in 8 10 13; do
+    first "$delay" | ordered "D = $((delay - 10)): in order" 'in order'
+done
+for delay in 14 15 16 240; do
+    first "$delay" | ordered "D = $((delay - 10)): overtaken" 'overtaken 1 2' '1 0 512' '2 1 1281'
+done
+first 16 | judged 'D above V: strict all the same' strict
+short 2 | ordered 'a pair that is not reached' 'in order'
+short 1 | ordered 'the step that is overtaken is not reached' 'in order'
+ordered 'split and overtaken' 'overtaken 1 2' '1 0 512' '2 1 1281' <<<'states 3 initial 0
+0 -> 1 input 0 output 1 (1,2] delay 14
+1 -> 2 input 0 output 2 (3,5] delay 10
+1 -> 0 input 0 output 3 (4,6] delay 10'
+ordered 'split and in order' 'in order' <<<'states 2 initial 0
+0 -> 1 input 0 output 1 (1,4] delay 1
+0 -> 1 input 0 output 2 (3,5] delay 1'
+# Transition 0 is always overtaken, 1 is the first that turns.
+both='states 4 initial 0
+0 -> 1 input 0 output 1 (1,2] delay 20
+1 -> 2 input 0 output 2 (3,5] delay 10
+2 -> 3 input 0 output 3 (1,9] delay 5'
+ordered 'the lowest that is overtaken' 'overtaken 1 2' '1 0 512' '2 1 1281' <<<"$both"
+judged 'the lowest that turns is another' 'turning 2 3' '1 0 512 512' '2 1 1792 1792' '3 2 4096 2049' <<<"$both"
+
+options=(--order)
+answers 'order: empty input' 'refused 1 at 0' </dev/null
+head -c 30 source.bin | answers 'order: cut to 30 bytes' 'refused 1 at 26'
+bytes "$head $row0 $end $end" | answers 'order: a second end' 'refused 2 at 30'
+bytes "$head $row0 $row1 $row0 $end" | answers 'order: a transition again' 'refused 5 at 44'
+printf 'states 2 initial 0\n0 -> 1 input 0 output 0 (1,70000] delay 1\n' | answers 'order: a text with a number out of range' 'refused 4 at 8'
+grep -q '^standard input:2: refused 4: a number outside its range' err
+verdict 'order: a number out of range, its line' $?
+run <<<'states 2 initial nowhere'
+[ "$status" -eq 2 ] && [ ! -s out ] && grep -q '^standard input:1: ' err
+verdict 'order: a text that no file can say' $?
+run nowhere.bin
+trouble 'nowhere\.bin: there is no such file' 'order: a file that is not there'
+run "$work"
+trouble 'directory' 'order: a directory'
+run <&-
+trouble 'standard input is closed' 'order: standard input is closed'
+run source.bin source.bin
+trouble 'too many words' 'order: two files'
+run --widths source.bin
+trouble '^--widths: .*does not go with --order' 'order: no widths'
+options=()
+run --order=yes source.bin
+trouble '^--order=yes: there is no such option' 'order: a value that is none'
+run --ordered source.bin
+trouble '^--ordered: there is no such option' 'order: a misspelt option'
+run order source.bin
+trouble 'too many words' 'order: without its dashes'
 
 # ---- Refused ----
 
@@ -256,6 +339,11 @@ in_pieces() {
     pieces "$@" | timeout 120 "${program[@]}" | head -n 1 | grep -qx "$line"
     verdict "in pieces, the program itself: $name" $?
 }
+for file in source full; do
+    pieces "$file.bin" 4 40 | "${order_program[@]}" >pieced
+    "$judge" --order "$file.bin" | cmp -s - pieced && grep -q '^overtaken 1 ' pieced
+    verdict "in pieces, the order program itself: $file" $?
+done
 in_pieces 'four bytes first' 'turning 1 3' source.bin 4
 in_pieces 'one byte first' 'turning 1 3' source.bin 1 65
 in_pieces 'cut within records' 'turning 1 3' source.bin 27 20 18
@@ -406,10 +494,10 @@ trouble "no command 'python3'" 'no Python'
 
 # The checkout, as it must be for the script: the program as it is built, and the sources of the script.
 checkout() {
-    mkdir -p "$1/crates/judge" "$1/tools"
+    mkdir -p "$1/crates/judge" "$1/crates/order" "$1/tools"
     cp "$judge" "$1/judge"
     cp -r "$root/tools/desk" "$1/tools/"
-    printf 'wire:\ntable: wire  # the reader\njudge: table io\nother: judge\n' >"$1/crates.txt"
+    printf 'wire:\ntable: wire  # the reader\njudge: table io\nother: judge\norder: table\n' >"$1/crates.txt"
     touch "$1/crates/judge/main"
 }
 
@@ -466,14 +554,14 @@ grep -q 'fn judge::main: no proof' err
 verdict 'a build that fails: why' $?
 cat >stand-in/rt <<STAND_IN
 #!/bin/sh
-[ "\$*" = 'check judge' ] || exit 2
+case \$* in 'check judge' | 'check order') ;; *) exit 2 ;; esac
 cat >/dev/null
 mkdir -p target/bin target/stamp
-cp '$root/target/bin/judge' target/bin/judge
-echo built >target/stamp/judge
+cp "$root/target/bin/\$2" "target/bin/\$2"
+echo built >"target/stamp/\$2"
 echo 'rt: wire proved (unchanged since it was last proved)'
 echo 'rt: table proved (2 s)'
-echo 'rt: judge proved (1 s)'
+echo "rt: \$2 proved (1 s)"
 STAND_IN
 with_rt <source.bin
 printf '%s\n' "${source_lines[@]}" | cmp -s - out && [ "$status" -eq 1 ]
@@ -481,6 +569,9 @@ verdict 'a fresh folder: the program is built and the input is not lost' $?
 printf 'judge: %s\n' 'building what is missing or has changed; from nothing this takes minutes' \
     '2 of 3: table proved (2 s)' '3 of 3: judge proved (1 s)' | cmp -s - err
 verdict 'a fresh folder: how far it is, on standard error' $?
+with_rt --order <source.bin
+printf '%s\n' "${order_lines[@]}" | cmp -s - out && [ "$status" -eq 1 ] && grep -qx 'judge: 3 of 3: order proved (1 s)' err && [ "$(wc -l <err)" -eq 3 ]
+verdict 'order: its program is built when it is asked for' $?
 rm fresh/target/bin/judge
 with_rt source.bin
 printf '%s\n' "${source_lines[@]}" | cmp -s - out && [ "$status" -eq 1 ] && grep -q 'building' err

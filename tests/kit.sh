@@ -96,6 +96,7 @@ sort >wanted <<FILES
 ./lib/libsandgusset.so.$version
 ./lib/pkgconfig/sandgusset.pc
 ./libexec/sandgusset/judge
+./libexec/sandgusset/order
 ./share/man/man1/sandgusset-judge.1
 ./share/man/man3/sandgusset.3
 FILES
@@ -114,8 +115,8 @@ verdict 'it says what it installs' $?
 verdict 'nothing is left elsewhere' $?
 cmp -s "$root/include/sandgusset.h" kit/include/sandgusset.h &&
     cmp -s "$root/target/staticlib/libsandgusset.a" kit/lib/libsandgusset.a &&
-    cmp -s "$root/target/bin/judge" kit/libexec/sandgusset/judge
-verdict 'header, archive and program are those of the checkout' $?
+    cmp -s "$root/target/bin/judge" kit/libexec/sandgusset/judge && cmp -s "$root/target/bin/order" kit/libexec/sandgusset/order
+verdict 'header, archive and programs are those of the checkout' $?
 "${install[@]}" "$kit" >again && holds kit && cmp -s out again
 verdict 'it can be installed again' $?
 
@@ -225,7 +226,7 @@ verdict 'the host in Python, --help' $?
 run python3 "$root/examples/host.py"
 failed_with 'the host in Python, wrong call' 2 'host.py FILE [LIBRARY]'
 
-# ---- The judge program ----
+# ---- The judge programs ----
 
 judge=kit/bin/sandgusset-judge
 source_lines=('turning 1 3' '1 0 5120 5120' '2 1 10240 8961' '3 2 14080 11522')
@@ -240,6 +241,18 @@ run "$judge" "$root/examples/split.bin"
 verdict 'sandgusset-judge: split' $?
 run "$judge" cut
 answered 'sandgusset-judge: refused' 2 'refused 1 at 26'
+run "$judge" --order "$root/examples/source-trace.bin"
+answered 'sandgusset-judge --order: overtaken' 1 'overtaken 1 3' '1 0 5120' '2 1 8961' '3 2 11522'
+run "$judge" --order <"$root/examples/split.bin"
+answered 'sandgusset-judge --order: in order, though split' 0 'in order'
+run "$judge" --order cut
+answered 'sandgusset-judge --order: refused' 2 'refused 1 at 26'
+run "$judge" --order none
+failed_with 'sandgusset-judge --order: no file' 3 'there is no such file'
+run "$judge" "$root/examples/split.bin" --order
+failed_with 'sandgusset-judge --order: the option after the file' 3 'options before it'
+run "$judge" --orders cut
+failed_with 'sandgusset-judge --order: misspelt' 3 'there is no such option'
 run "$judge" none
 failed_with 'sandgusset-judge: no file' 3 'there is no such file'
 run "$judge" kit
@@ -276,6 +289,8 @@ failed_with 'sandgusset-judge: no loader does' 3 "can't run the program"
 rm moved/libexec/sandgusset/judge
 run home/linked "$root/examples/touching.bin"
 failed_with 'sandgusset-judge: without its program' 3 'the program is missing'
+run home/linked --order "$root/examples/touching.bin"
+answered 'sandgusset-judge --order: has a program of its own' 0 'in order'
 run env -i PATH=/usr/bin:/bin "$judge" "$root/examples/touching.bin"
 if [ -z "$runner" ] || PATH=/usr/bin:/bin command -v qemu-x86_64 >/dev/null; then
     answered 'sandgusset-judge: without the toolchain' 0 strict

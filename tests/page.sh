@@ -45,10 +45,10 @@ document.body.append(list);
 </script>
 SCRIPT
 
-# looked NAME PICTURES: the page of the text on standard input has so many pictures, and they are in order.
+# looked NAME PICTURES [OPTION]: the page of the text on standard input has so many pictures, and they are in order.
 looked() {
     cat >"$1.table"
-    "$root/judge" --widths --page "$1.html" "$1.table" >/dev/null 2>&1
+    "$root/judge" "${3:---widths}" --page "$1.html" "$1.table" >/dev/null 2>&1
     sed '/<\/body>/e cat check.js' "$1.html" >"$1-checked.html"
     browser --dump-dom "file://$work/$1-checked.html" >dom 2>errors
     tr '\n' ' ' <dom | sed -n 's/.*>SAID \(.*\) DIAS<.*/\1/p' >said
@@ -65,6 +65,7 @@ looked() {
 
 for name in source-trace download-wide inputs-a-b; do looked "$name" 2 <"$root/examples/$name.table"; done
 looked split 1 <"$root/examples/split.table"
+for name in flow-change inputs-a-b; do looked "$name-order" 1 --order <"$root/examples/$name.table"; done
 looked download-narrow 0 <"$root/examples/download-narrow.table"
 looked refused 0 <<<'states 0 initial 0'
 

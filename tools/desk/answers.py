@@ -1,4 +1,4 @@
-"""Answers of the proved program: document 01's lines, their status, their meaning in words. One table of words for all of them."""
+"""Answers of the proved programs: the documents' lines, their status, their meaning in words. One table of words for all of them."""
 
 from collections import namedtuple
 
@@ -11,6 +11,8 @@ VERDICTS = {
     "strict": Verdict(0, 0, "no timing of the requests changes the order of the responses, and none is answered in two ways"),
     "split": Verdict(1, 4, "one timing of the requests is answered in two ways: the table does not say which"),
     "turning": Verdict(1, 4, "two timings of the same requests give the responses in different orders"),
+    "in order": Verdict(0, 0, "however the requests are timed, no step responds before an earlier one"),
+    "overtaken": Verdict(1, 3, "a later step can respond before an earlier one"),
     "refused": Verdict(2, 0, "this is no table"),
 }
 TROUBLE = 3

@@ -99,7 +99,7 @@ class Panel:
                 f'aria-label="{html.escape(title, quote=True)}">\n' + "\n".join(parts) + "\n</svg>")
 
 
-# ---- Turning ----
+# ---- Turning, overtaken ----
 
 def shown_steps(first, last):
     """Runs of steps to show, with None where some are left out."""
@@ -119,17 +119,17 @@ def step_label(source, number, transition):
     return f"{number}: {cut(written.input, 14)} → {cut(written.output, 14)}"
 
 
-def turn_rows(source, turn, timing, first):
-    rows, shown = [], shown_steps(first, turn.m)
+def pair_rows(source, pair, timing, first):
+    rows, shown = [], shown_steps(first, pair.m)
     for place, number in enumerate(shown):
         if number is None:
             before, after = shown[place - 1], shown[place + 1]
             rows.append(Gap(f".. {after - before - 1} steps ..", timing.arrivals[before], timing.arrivals[after - 2]))
             continue
-        kind = {turn.k: "first", turn.m: "second"}.get(number, "plain")
+        kind = {pair.k: "first", pair.m: "second"}.get(number, "plain")
         mark = "◆ " if kind != "plain" else ""
-        rows.append(Row(mark + step_label(source, number, turn.trace[number - 1]), kind,
-                        timing.opens(number, turn.steps[number - 1]), timing.arrivals[number - 1], timing.due[number - 1]))
+        rows.append(Row(mark + step_label(source, number, pair.trace[number - 1]), kind,
+                        timing.opens(number, pair.steps[number - 1]), timing.arrivals[number - 1], timing.due[number - 1]))
     return rows
 
 
@@ -141,21 +141,21 @@ def in_order(numbers, marked):
     return "responses in the order of steps " + ", ".join(map(str, numbers))
 
 
-def of_turning(source, turn):
-    """Both timings, from the step before the pair's first; on one scale if that leaves both readable."""
-    request = turn.late.arrivals[turn.k - 1]
-    ends = [max(timing.due[turn.k - 1:]) for timing in turn.timings]
-    earlier = turn.late.arrivals[turn.k - 2] if turn.k > 1 else 0
+def of_pair(source, pair):
+    """The timings, from the step before the pair's first; on one scale if that leaves both readable."""
+    request = pair.early.arrivals[pair.k - 1]  # up to step k two timings are alike
+    ends = [max(timing.due[pair.k - 1:]) for timing in pair.timings]
+    earlier = pair.early.arrivals[pair.k - 2] if pair.k > 1 else 0
     shared = max(ends) - request <= 4 * (min(ends) - request)
     panels = []
-    for timing, end in zip(turn.timings, ends):
+    for timing, end in zip(pair.timings, ends):
         end = max(ends) if shared else end
         start = max(earlier, request - (end - request) // 3)
-        first = turn.k - 1 if turn.k > 1 and start == earlier else turn.k
-        before = f" from step {first} on; up to there both are alike" if first > 1 else ""
+        first = pair.k - 1 if pair.k > 1 and start == earlier else pair.k
+        before = f" from step {first} on" + ("; up to there both are alike" if len(ends) > 1 else "") if first > 1 else ""
         title = f"{timing.name} timing{before}" + ("" if shared else " (on a scale of its own)")
-        panels.append(Panel(start, end).drawn(title, turn_rows(source, turn, timing, first),
-                                              f"{timing.name} timing: " + in_order(timing.order, (turn.k, turn.m))))
+        panels.append(Panel(start, end).drawn(title, pair_rows(source, pair, timing, first),
+                                              f"{timing.name} timing: " + in_order(timing.order, (pair.k, pair.m))))
     return panels
 
 

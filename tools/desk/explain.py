@@ -1,7 +1,7 @@
 """Answers in words, for the integrator: lines of his text, names, what makes the answer so."""
 
 from desk import answers, picture, tables
-from desk.timing import Fork, Turn, ticks
+from desk.timing import PAIRS, Fork, Overtaking, Turn, ticks
 
 MOST_LISTED = 12  # lines of a list; the rest is counted
 
@@ -23,23 +23,44 @@ def transition_line(source, lead, number):
     return f"  {lead}  {source.where(number)}:  {source.line(number)}"
 
 
+def of_steps(source, pair):
+    """The two steps of a pair, and what lies between them."""
+    k, m, u, v = pair.k, pair.m, pair.u, pair.v
+    steps = f"step {m}" if m == k + 1 else f"steps {k + 1} to {m}"
+    return ["", transition_line(source, f"step {k}", pair.first),
+            transition_line(source, f"step {m}", pair.last), "",
+            f"  D = {pair.steps[k - 1].d} - {pair.steps[m - 1].d} = {pair.d}: step {m} responds so many ticks quicker than step {k}.",
+            f"  U = {u}, V = {v}: its request comes more than {u} and at most {v} ticks later, the sums over {steps}:"
+            ] + listed([f"    {source.where(number)}: ({t.u},{t.v}]" + (f", {times} times" if times > 1 else "")
+                        for number, times in counted(pair.between) for t in [source.table().transitions[number]]])
+
+
 def of_turning(source, answer):
     turn = Turn(answer, source.table())
     k, m, d, u, v = turn.k, turn.m, turn.d, turn.u, turn.v
     first, last = source.written(turn.first).output, source.written(turn.last).output
-    steps = f"step {m}" if m == k + 1 else f"steps {k + 1} to {m}"
-    lines = [f"The responses of steps {k} and {m} change places, though the requests come in one order:", "",
-             transition_line(source, f"step {k}", turn.first),
-             transition_line(source, f"step {m}", turn.last), "",
-             f"  D = {turn.steps[k - 1].d} - {turn.steps[m - 1].d} = {d}: step {m} responds so many ticks quicker than step {k}.",
-             f"  U = {u}, V = {v}: its request comes more than {u} and at most {v} ticks later, the sums over {steps}:"]
-    lines += listed([f"    {source.where(number)}: ({t.u},{t.v}]" + (f", {times} times" if times > 1 else "")
-                     for number, times in counted(turn.between) for t in [source.table().transitions[number]]])
+    lines = [f"The responses of steps {k} and {m} change places, though the requests come in one order:"] + of_steps(source, turn)
     lines += [f"  U < D <= V, that is {u} < {d} <= {v}: with less than {d} ticks between the two requests step {m} responds first,",
               f"  output {last}; with {d} ticks or more step {k} does, output {first}.", "",
               f"This pair stops turning if U is at least {d} (now {u}), or if V is below {d} (now {v}). Which of them, and by which",
               "guard or delay, is your choice. Judge again then: another pair may turn."]
     return lines
+
+
+def of_overtaken(source, answer):
+    pair = Overtaking(answer, source.table())
+    k, m, d, u, v = pair.k, pair.m, pair.d, pair.u, pair.v
+    first, last = source.written(pair.first).output, source.written(pair.last).output
+    lines = [f"Step {m} can respond before step {k}, though its request comes later:"] + of_steps(source, pair)
+    lines += [f"  U < D, that is {u} < {d}: with less than {d} ticks between the two requests step {m} responds first, output {last}."]
+    if d <= v:
+        lines += [f"  D <= V, that is {d} <= {v}: with {d} ticks or more step {k} does, output {first}. So this pair turns."]
+    else:
+        lines += [f"  D > V, that is {d} > {v}: there are never {d} ticks between. So this pair is always reversed, and does not turn."]
+    lines += [f"  In the timing shown step {number} has its request at {ticks(pair.early.arrivals[number - 1])} and its response at "
+              f"{ticks(pair.early.due[number - 1])} ticks." for number in (k, m)]
+    return lines + ["", f"This pair keeps its order if U is at least D: now {u} and {d}. By which guard or delay is your choice. Ask again then:",
+                    "another step may be overtaken."]
 
 
 def of_split(source, answer):
@@ -56,6 +77,7 @@ def of_split(source, answer):
 
 
 def of_strict(source, answer):
+    """What holds of every timing, and of which transitions."""
     table = source.table()
     lost = tables.unreached(table)
     count = len(table.transitions)
@@ -68,13 +90,18 @@ def of_strict(source, answer):
     return lines
 
 
+def of_in_order(source, answer):
+    return of_strict(source, answer) + ["So no two responses turn. A split is another question: ./judge without --order answers it."]
+
+
 def of_refused(source, answer):
     number, offset = answer.numbers
     closer = source.why() or [f"{source.place(offset)}: {answers.REFUSALS[number]}"]
     return closer + ["The rule: " + answers.RULES[number]]
 
 
-OF = {"strict": of_strict, "split": of_split, "turning": of_turning, "refused": of_refused}
+OF = {"strict": of_strict, "split": of_split, "turning": of_turning, "in order": of_in_order, "overtaken": of_overtaken,
+      "refused": of_refused}
 
 
 def heading(answer):
@@ -90,7 +117,7 @@ def words(source, answer):
 def explained(source, answer):
     """The lines that --explain adds."""
     lines = words(source, answer)
-    if answer.word == "turning":
-        drawn = picture.drawn(Turn(answer, source.table()))
+    if answer.word in PAIRS:
+        drawn = picture.drawn(PAIRS[answer.word](answer, source.table()))
         lines += [""] + ["  " + line if line else "" for line in drawn]
     return lines

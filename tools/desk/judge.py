@@ -3,9 +3,11 @@
     ./judge [OPTIONS] [FILE]
 
 FILE is a table in text (tools/table --help shows the form) or a table file; - or no FILE is standard input.
-Standard output has document 01's lines and nothing else, unless an option asks for more.
+Standard output has the documents' lines and nothing else, unless an option asks for more.
 
-    --explain        then the answer in words: lines, names, what makes it so, both timings as a picture
+    --order          another question: does the table keep the order of its requests? Prints 'in order', 'overtaken K M'
+                     (step M can respond before step K; lines of step, transition, stamp) or 'refused N at P'
+    --explain        then the answer in words: lines, names, what makes it so, the timings as a picture
     --widths         of a strict table: lines of transition, least lower bound, greatest upper bound, each alone, with
                      which the table stays strict; with --explain what stops each there
     --page OUT.html  besides, one page with all of this, to look at or to print
@@ -15,7 +17,8 @@ A text is UTF-8 without control characters, and its first word begins a line of 
 table file. What is wrong with a text is told on standard error, by line. The program is proved and built first if it is
 missing or its sources have changed; standard error says how far it is.
 
-Status: 0 strict; 1 split or turning; 2 refused: no table; 3 trouble: a wrong call, no such file, a read error, not built.
+Status: 0 strict, or in order; 1 split or turning, or overtaken; 2 refused: no table; 3 trouble: a wrong call, no such
+file, a read error, not built.
 """
 
 import os
@@ -58,7 +61,7 @@ def serve(call, path):
             files.say(line)
         put_page(call, path, source, None, None)
         return answers.VERDICTS["refused"].status
-    judge = program.Program()
+    judge = program.Program("order" if call.order else "judge")
     judge.ready()
     answer = judged(source, judge)
     wide = widths.found(judge, source.table()) if call.widths and answer.word == "strict" else None
@@ -94,9 +97,11 @@ def lines_of(lines):
 
 def main(arguments):
     files.hold_standard()
-    script = calls.Script(__doc__, answers.TROUBLE, flags=("explain", "widths"), valued=("page",))
+    script = calls.Script(__doc__, answers.TROUBLE, flags=("order", "explain", "widths"), valued=("page",))
     try:
         call = script.taken(arguments, 0, 1)
+        if call.order and call.widths:
+            script.wrong("--widths: how far a table stays strict; it does not go with --order, which asks for something else")
         return serve(call, call.words[0] if call.words else "-")
     except files.Trouble as trouble:
         files.say(f"judge: {trouble}")

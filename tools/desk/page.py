@@ -3,7 +3,7 @@
 import html
 
 from desk import drawing, explain, tables, widths
-from desk.timing import Fork, Turn
+from desk.timing import PAIRS, Fork
 
 MARK = '<meta name="generator" content="sandgusset judge --page">'
 
@@ -42,10 +42,10 @@ def marks(witness):
     steps = {}
     for number, transition in enumerate(witness.trace, 1):
         steps.setdefault(transition, []).append(number)
-    pair = {witness.first, witness.last} if isinstance(witness, Turn) else {witness.i, witness.j}
-    if isinstance(witness, Fork):
-        steps.setdefault(witness.j, []).append(len(witness.trace))
-    return steps, pair
+    if not isinstance(witness, Fork):
+        return steps, {witness.first, witness.last}
+    steps.setdefault(witness.j, []).append(len(witness.trace))
+    return steps, {witness.i, witness.j}
 
 
 def runs(numbers):
@@ -90,7 +90,7 @@ def widths_part(source, wide):
 
 # ---- The whole ----
 
-WITNESS = {"turning": (Turn, drawing.of_turning), "split": (Fork, drawing.of_split)}
+WITNESS = {"split": (Fork, drawing.of_split), **{word: (made, drawing.of_pair) for word, made in PAIRS.items()}}
 
 
 def parts_of(source, answer, wide):

@@ -1,4 +1,4 @@
-"""Two timings as one picture in text: a column for each time, requests above, responses below."""
+"""One or two timings as one picture in text: a column for each time, requests above, responses below."""
 
 from desk.timing import ticks
 
@@ -43,26 +43,26 @@ def grid(timings, shown, marked):
     return ["  ".join(cell.ljust(width) for cell, width in zip(row, wide)).rstrip() for row in table]
 
 
-def choices(turn):
+def choices(pair):
     """Which steps are shown: all, or fewer and fewer around the pair."""
-    k, m = turn.k, turn.m
+    k, m = pair.k, pair.m
     yield set(range(1, m + 1))
     yield set(range(k, m + 1))
     yield {k, k + 1, m - 1, m}
     yield {k, m}
 
 
-def drawn(turn):
-    """The picture of a turning answer, with its legend."""
-    for shown in choices(turn):
-        lines = grid(turn.timings, shown, (turn.k, turn.m))
+def drawn(pair):
+    """The picture of a pair's answer, with its legend."""
+    for shown in choices(pair):
+        lines = grid(pair.timings, shown, (pair.k, pair.m))
         if max(map(len, lines)) <= WIDE:
             break
     legend = ["|n is the request of step n, (n) its response, * the pair."]
-    parts = max(stamp % 256 for stamp in turn.early.arrivals)
+    parts = max(stamp % 256 for stamp in pair.early.arrivals)
     if parts:
         legend.append(f"A + is less than a tick more, here at most {parts}/256: a guard (u,v] asks for more than u ticks.")
-    left = turn.m - len(shown)
+    left = pair.m - len(shown)
     if left:
-        legend.append(f"{left} of {turn.m} steps are not drawn; ..n.. stands for n of them.")
+        legend.append(f"{left} of {pair.m} steps are not drawn; ..n.. stands for n of them.")
     return lines + [""] + legend

@@ -23,21 +23,37 @@ class Timing:
         return before + PARTS * step.u, before + PARTS * step.v
 
 
-class Turn:
-    """A turning answer: steps k and m of its trace, counted from 1, change places."""
+class Pair:
+    """An answer that shows a trace with its steps k and m, counted from 1, and timings in the columns after the second."""
+
+    names = ()  # of the timings
 
     def __init__(self, answer, table):
         self.k, self.m = answer.numbers
         self.trace = [row[1] for row in answer.rows]
         self.steps = [table.transitions[number] for number in self.trace]
-        self.late = Timing("late", self.steps, [row[2] for row in answer.rows])
-        self.early = Timing("early", self.steps, [row[3] for row in answer.rows])
-        self.timings = [self.late, self.early]
+        self.timings = [Timing(name, self.steps, [row[column] for row in answer.rows]) for column, name in enumerate(self.names, 2)]
+        self.early = self.timings[-1]
         self.first, self.last = self.trace[self.k - 1], self.trace[self.m - 1]
         self.between = self.trace[self.k:self.m]  # steps k+1 to m
         self.d = self.steps[self.k - 1].d - self.steps[self.m - 1].d
         self.u = sum(step.u for step in self.steps[self.k:self.m])
         self.v = sum(step.v for step in self.steps[self.k:self.m])
+
+
+class Turn(Pair):
+    """A turning answer: the two steps change places."""
+
+    names = ("late", "early")
+
+
+class Overtaking(Pair):
+    """An overtaken answer: step m responds before step k."""
+
+    names = ("early",)
+
+
+PAIRS = {"turning": Turn, "overtaken": Overtaking}
 
 
 class Fork:

@@ -10,7 +10,7 @@ use Rattle.model.specs.Lists.{All, all-nil, all-cons, over}
 use Rattle.model.specs.Table.{Transition, Machine, InRange, Valid, at}
 use Rattle.model.specs.Trace.{Trace, Handed, steps}
 use Rattle.model.specs.Order.{Response, response, Conversion}
-use Rattle.model.specs.Criterion.{Criterion, WalkTurns}
+use Rattle.model.specs.Criterion.{Crosses, Criterion, WalkFrom}
 use Rattle.model.specs.Verdict.{SplitPair, Splits, OnlyTurns}
 use Rattle.model.specs.Stamps.{gapsFrom, wordFrom, shownStamps}
 use Rattle.model.proofs.Conversion.{order, conversion-exists}
@@ -21,6 +21,7 @@ use Rattle.model.proofs.Split.{split-law}
 use Rattle.model.proofs.Turn.{table-walk-law}
 use Rattle.model.proofs.Words.{words-show}
 use Rattle.table.specs.Tests.{Test, Passes, Answered, refuses, answers, afterTable}
+use Rattle.table.specs.Showing.{says-none, says-shown}
 use Rattle.table.proofs.TestLaws.{passes-append, fails-back, answered-only, valid-passes}
 use Rattle.trace.proofs.TraceLaws.{handed-ranged}
 use Rattle.replay.specs.Play.{ownTests, gapTests, replayTests, ReplayOutcome}
@@ -29,7 +30,7 @@ use Rattle.replay.proofs.ReplayLaws.{all-activates}
 use Rattle.replay.proofs.OutcomeLaws.{play-only}
 use Rattle.verdict.specs.OnTrace.{TraceSays, says-steady, says-turning, TraceOutcome}
 use Rattle.verdict.proofs.JudgeLaws as verdict
-use Rattle.table_verdict.specs.OnTable.{tableTests, ShowsTurning, TableSays, says-strict, says-split, says-turning as says-shown, TableOutcome}
+use Rattle.table_verdict.specs.OnTable.{tableTests, ShowsTurning, split-shown, turning-shown, TableSays, TableOutcome}
 use Rattle.cases.specs.Cases.{Case, replayed, judged, tabled, sized, Size, Alone, Holds}
 
 -- every number in its range, and transition i leads from state i to the next
@@ -180,7 +181,7 @@ OnlyTwo m trace = (l : List ℕ) (e k n : ℕ) → Trace (m .transitions) (m .in
 abbrev pub WalksSay : Machine → Fields → List ℕ → List ℕ → Type 0
 WalksSay m answer trace stamps =
     let tr : List Transition = steps (m .transitions) trace in
-    ((answer ≡ fields 0 0 0 0) × (trace ≡ []) × (stamps ≡ []) × ((i : ℕ) → WalkTurns m i → ⊥))
+    ((answer ≡ fields 0 0 0 0) × (trace ≡ []) × (stamps ≡ []) × ((i : ℕ) → WalkFrom Crosses m i → ⊥))
     ⊎ ((answer ≡ fields 257 1 2 2) × (stamps ≡ shownStamps tr 0 1) × ((e : ℕ) × Trace (m .transitions) (m .initial) trace e) × (length trace ≡ 2)
     × InTicks tr 0 1 × OnlyTwo m trace)
 
@@ -205,34 +206,36 @@ module _ {m : Machine} (valid : Valid m) (unsplit : (i j : ℕ) → SplitPair m 
     shows : length trace ≡ 2 → OnlyTwo m trace → ShowsTurning m trace 0 1
     shows n only = record {
       only = turns;
-      end = e;
-      path = path;
-      few = omega arith;
-      ends = n;
-      lowest = λ i f.
-          let q = only (f .trace) (f .end) (f .k) (f .later) (f .path) (f .turns .early .ordered) (rw length-steps at (f .turns .early .inside)) in
-          let z : getD trace 0 0 ≡ i = cc (q .0, q .1, f .here) in
-          omega arith;
-      earliest = λ x h. absurd (omega arith);
-      turns = turns-law good 0 1 .1 meets;
+      lowest = record {
+        end = e;
+        path = path;
+        few = omega arith;
+        ends = n;
+        lowest = λ i f.
+            let q = only (f .trace) (f .end) (f .k) (f .later) (f .path) (f .pair .early .ordered) (rw length-steps at (f .pair .early .inside)) in
+            let z : getD trace 0 0 ≡ i = cc (q .0, q .1, f .here) in
+            omega arith;
+        earliest = λ x h. absurd (omega arith);
+        pair = turns-law good 0 1 .1 meets;
+      };
       shows = words-show good 0 1 meets;
     }
 
   table-says : {answer : Fields} {trace stamps : List ℕ} → WalksSay m answer trace stamps → Told answer (over trace l₀) (over stamps s₀)
   table-says (inl (z, el, es, none)) =
-      says-strict z (record { unsplit = whole; steady = λ x. let w = table-walk-law m valid .0 x in none (w .0) (w .1) }) (rw el, rw es)
+      says-none z (record { unsplit = whole; steady = λ x. let w = table-walk-law m valid .0 x in none (w .0) (w .1) }) (rw el, rw es)
   table-says {trace = trace} (inr (z, es, (e, path), n, t, only)) =
-      says-shown {shown = trace} {k = 0} {last = 1} z (shows trace e path t n only) (refl, rw es)
+      says-shown (turning-shown {shown = trace} {k = 0} {last = 1} z (shows trace e path t n only)) (refl, rw es)
 
   -- every answer that is allowed is the one that the case expects
   told : {answer f : Fields} {trace stamps l s : List ℕ} → WalksSay m answer trace stamps → Told f l s
       → (f ≡ answer) × (l ≡ over trace l₀) × (s ≡ over stamps s₀)
-  told c (says-split z p l) = absurd (whole (p .splits))
-  told (inl (q, el, es, none)) (says-strict z p k) = (z ∙ sym q, rw el (k .0), rw es (k .1))
-  told (inl (q, el, es, none)) (says-shown z p l) = let w = table-walk-law m valid .0 (p .only .turns) in absurd (none (w .0) (w .1))
-  told {trace = trace} (inr (q, es, (e, path), n, t, only)) (says-strict z p k) = absurd (p .steady (turns trace e path t .turns))
-  told (inr (q, es, x, n, t, only)) (says-shown {shown = shown} {k = k} {last = last} z p l) =
-      let o = only shown (p .end) k last (p .path) (p .turns .early .ordered) (omega (arith, p .ends)) in
+  told c (says-shown (split-shown z p) l) = absurd (whole (p .splits))
+  told (inl (q, el, es, none)) (says-none z p k) = (z ∙ sym q, rw el (k .0), rw es (k .1))
+  told (inl (q, el, es, none)) (says-shown (turning-shown z p) l) = let w = table-walk-law m valid .0 (p .only .turns) in absurd (none (w .0) (w .1))
+  told {trace = trace} (inr (q, es, (e, path), n, t, only)) (says-none z p k) = absurd (p .steady (turns trace e path t .turns))
+  told (inr (q, es, x, n, t, only)) (says-shown (turning-shown {shown = shown} {k = k} {last = last} z p) l) =
+      let o = only shown (p .lowest .end) k last (p .lowest .path) (p .lowest .pair .early .ordered) (omega (arith, p .lowest .ends)) in
       let w = rw (o .0, o .1, o .2) at l in
       ((rw (o .1, o .2) at z) ∙ sym q, w .0, rw es (w .1))
 

@@ -4,6 +4,13 @@ ghost use mathlib.Core.Path.{_≡_};
 ghost use Rattle.model.specs.Answers.{Tells};
 ghost use Rattle.model.specs.Criterion.{Above, Below, Crosses, Spent, slack};
 ghost use Rattle.table.specs.Rows.{said};
+ghost use Rattle.criterion.specs.Goals.{Meets};
+
+// What a search asks of two steps.
+pub enum Goal {
+    Turns,
+    Overtakes,
+}
 
 // U < D: whether m can respond before k, for the sum u of lower bounds after k up to m.
 pub fn above(k: Row, m: Row, u: u32) -> bool
@@ -36,6 +43,16 @@ pub fn crosses(k: Row, m: Row, u: u32, late: u32) -> bool
         return false;
     }
     true
+}
+
+// Whether the pair is what is asked for.
+pub fn meets(goal: Goal, k: Row, m: Row, u: u32, late: u32) -> bool
+    ensures { λ b. ⌜ Tells b (Meets goal (said k) (said m) u late) ⌝ }
+{
+    match goal {
+        Goal::Turns => crosses(k, m, u, late),
+        Goal::Overtakes => above(k, m, u),
+    }
 }
 
 // So much u that no later step is above k: every delay is at least 1.

@@ -11,7 +11,7 @@ use Rattle.model.specs.Lists.{between}
 use Rattle.model.specs.Table.{Transition, InRange, at}
 use Rattle.model.specs.Shown.{lateGap}
 use Rattle.model.specs.Span.{span, lateSum, sumU, sumV}
-use Rattle.model.specs.Criterion.{Above, Below, Spent, slack, Criterion}
+use Rattle.model.specs.Criterion.{Above, Below, Crosses, Spent, slack, Goal, Ahead, Criterion}
 use Rattle.model.proofs.Lists.{total-scale}
 
 -- late gaps are whole ticks
@@ -40,13 +40,13 @@ criterion-is tr k m = (
   λ c. record {
     ordered = c .ordered;
     inside = c .inside;
-    above = above-is (at tr k) (at tr m) (sumU tr k m) .0 (c .crosses .above);
-    below = below-is (at tr k) (at tr m) (sumV tr k m) .0 (rw (sum-late (between k m tr)) at (c .crosses .below));
+    above = above-is (at tr k) (at tr m) (sumU tr k m) .0 (c .meets .above);
+    below = below-is (at tr k) (at tr m) (sumV tr k m) .0 (rw (sum-late (between k m tr)) at (c .meets .below));
   },
   λ c. record {
     ordered = c .ordered;
     inside = c .inside;
-    crosses = record {
+    meets = record {
       above = above-is (at tr k) (at tr m) (sumU tr k m) .1 (c .above);
       below = rw (sum-late (between k m tr)) (below-is (at tr k) (at tr m) (sumV tr k m) .1 (c .below));
     };
@@ -96,3 +96,17 @@ unspent k u top n h = by-cases (decLt (u + 1) (k .d)) (λ l. omega arith) (λ m.
 pub above-chain : (k t m : Transition) (u : ℕ) → Above k m (t .u + u) → Above k t (t .u) ⊎ Above t m u
 unfolding Above
 above-chain k t m u h = by-cases (decLt (t .u + t .d) (k .d)) inl (λ n. inr (omega arith))
+
+-- what a search may count on: what meets the goal is above, and meets it with every sum of u with which it is above, and with more late time
+pub record Sought (goal : Goal) : Type 0 where
+  pub above : (k m : Transition) (u late : ℕ) → goal k m u late → Above k m u
+  pub moves : (k m : Transition) (u late x more : ℕ) → goal k m u late → Above k m x → late ≤ more → goal k m x more
+
+pub crosses-sought : Sought Crosses
+crosses-sought = record {
+  above = λ k m u late c. c .above;
+  moves = λ k m u late x more c a l. record { above = a; below = below-more k m late more (c .below) l };
+}
+
+pub ahead-sought : Sought Ahead
+ahead-sought = record { above = λ k m u late a. a; moves = λ k m u late x more c a l. a }

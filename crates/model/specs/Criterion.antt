@@ -1,5 +1,5 @@
 -- The criterion of a pair, for the theorems to compare with the definition by words, and the walks that meet it. Its two halves have one
--- name each, and everything that searches goes by their laws (R-1 asks the first alone; R-3, R-7 and R-10 change what stands here).
+-- name each, and everything that searches goes by their laws (R-3, R-7 and R-10 change what stands here).
 use mathlib.Core.List.{List, [], _∷_, _++_}
 use Prim.Native.Nat.{ℕ, _+_, _*_, _-_, _≤_, _<_}
 use lib.ListN.{length}
@@ -28,22 +28,33 @@ Spent k u = k .d ≤ u + 1
 unfoldable pub slack : Transition → Transition → ℕ
 slack k m = k .d - (m .d + m .u) - 1
 
+-- what is asked of two steps: by their transitions, the sum of lower bounds and the sum of late gaps over the steps after the first
+abbrev pub Goal : Type 1
+Goal = Transition → Transition → ℕ → ℕ → Type 0
+
+-- 02, R-1, asks for the first half alone: the later step can respond before the earlier one
+abbrev pub Ahead : Goal
+Ahead k m u late = Above k m u
+
 -- "For steps k < m .. over steps k+1 to m."
-pub record Criterion (tr : List Transition) (k m : ℕ) : Type 0 where
+pub record PairMeets (goal : Goal) (tr : List Transition) (k m : ℕ) : Type 0 where
   pub ordered : k < m
   pub inside : m < length tr
-  pub crosses : Crosses (at tr k) (at tr m) (sumU tr k m) (sumLate tr k m)
+  pub meets : goal (at tr k) (at tr m) (sumU tr k m) (sumLate tr k m)
 
--- after transition k the transitions `rest`, then m: a walk that meets the criterion
-pub record TurnsTo (ts : List Transition) (k m : ℕ) : Type 0 where
+abbrev pub Criterion : List Transition → ℕ → ℕ → Type 0
+Criterion = PairMeets Crosses
+
+-- after transition k the transitions `rest`, then m: a walk that meets the goal
+pub record WalkTo (goal : Goal) (ts : List Transition) (k m : ℕ) : Type 0 where
   pub rest : List ℕ
   pub end : ℕ
   pub walk : Trace ts (at ts k .to) (rest ++ (m ∷ [])) end
-  pub crosses : Crosses (at ts k) (at ts m) (span (steps ts (rest ++ (m ∷ []))) .u) (lateSum (steps ts (rest ++ (m ∷ []))))
+  pub meets : goal (at ts k) (at ts m) (span (steps ts (rest ++ (m ∷ []))) .u) (lateSum (steps ts (rest ++ (m ∷ []))))
 
 -- the same from a transition i that leaves a reachable state
-pub record WalkTurns (m : Machine) (i : ℕ) : Type 0 where
+pub record WalkFrom (goal : Goal) (m : Machine) (i : ℕ) : Type 0 where
   pub reached : Reached (m .transitions) (m .initial) (at (m .transitions) i .from)
   pub known : i < length (m .transitions)
   pub j : ℕ
-  pub turns : TurnsTo (m .transitions) i j
+  pub after : WalkTo goal (m .transitions) i j

@@ -1,3 +1,4 @@
 pub mod PlaceLaws
 pub mod AgreeLaws
 pub mod ReadingLaws
+pub mod ShownLaws

@@ -1,2 +1,3 @@
 pub mod OnFile
 pub mod Places
+pub mod ShownBytes

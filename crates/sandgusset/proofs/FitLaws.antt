@@ -7,6 +7,7 @@ use native.Mathlib.Omega.{arith}
 use lib.ListN.{length, take, length-take}
 use Rattle.model.specs.Answers.{Fields, fields}
 use Rattle.model.specs.Table.{Transition, Machine}
+use Rattle.model.specs.Verdict.{Strict}
 use Rattle.model.specs.Stamps.{gapsFrom}
 use Rattle.model.proofs.Paths.{length-steps}
 use Rattle.wire.specs.Bytes.{Bytes, wholes}
@@ -16,11 +17,14 @@ use Rattle.table.proofs.FileLaws.{places, near, sound}
 use Rattle.table.proofs.WriteLaws.{length-file}
 use Rattle.replay.specs.Play.{gapTests}
 use Rattle.verdict.specs.OnTrace.{TraceSays, says-steady, says-turning as trace-turning}
-use Rattle.table_verdict.specs.OnTable.{TableSays, says-strict, says-split, says-turning}
+use Rattle.table.specs.Showing.{Showing, says-none, says-shown}
+use Rattle.table_verdict.specs.OnTable.{TableShows, split-shown, turning-shown}
+use Rattle.table_order.specs.OnOrder.{KeepsOrder, OrderShows, overtaken-shown}
+use Rattle.places.specs.ShownBytes.{ShownOnFile}
 use Rattle.places.specs.Places.{pathIn, traceTest}
 use Rattle.places.proofs.ReadingLaws.{of-file}
 use Rattle.sandgusset.specs.Packed.{packed, unpacked, In16Bits}
-use Rattle.sandgusset.specs.Exports.{JudgeAnswer, JudgeTraceAnswer, ReplayAnswer, RewriteAnswer}
+use Rattle.sandgusset.specs.Exports.{JudgeAnswer, OrderAnswer, JudgeTraceAnswer, ReplayAnswer, RewriteAnswer}
 use Rattle.sandgusset.proofs.PackLaws.{packed-apart}
 
 -- the number and the place of each test fit where all before it hold
@@ -59,10 +63,13 @@ trace-fits : {tr : List Transition} {Kept : Type 0} {Left : List ℕ → Type 0}
 trace-fits h (says-steady e n k) = rw e (omega arith)
 trace-fits h (trace-turning e t w) = let p = t .pair .pair .early in rw e (omega (arith, p .ordered, p .inside))
 
-table-fits : {m : Machine} {Kept : Type 0} {Left : List ℕ → List ℕ → Type 0} {f : Fields} → length (m .transitions) ≤ 256 → TableSays m Kept Left f → In16Bits f
-table-fits h (says-strict e p k) = rw e (omega arith)
-table-fits h (says-split e a l) = rw e (omega (arith, a .few, a .pair .pair .ordered, a .pair .pair .inside))
-table-fits h (says-turning e a l) = rw e (omega (arith, a .few, a .ends, a .turns .early .ordered))
+-- what is shown of a table with at most 256 transitions
+table-shows-fit : (m : Machine) → length (m .transitions) ≤ 256 → (f : Fields) (l s : List ℕ) → TableShows m f l s → In16Bits f
+table-shows-fit m h f _ _ (split-shown e a) = rw e (omega (arith, a .few, a .pair .pair .ordered, a .pair .pair .inside))
+table-shows-fit m h f _ _ (turning-shown e a) = rw e (omega (arith, a .lowest .few, a .lowest .ends, a .lowest .pair .early .ordered))
+
+order-shows-fit : (m : Machine) → length (m .transitions) ≤ 256 → (f : Fields) (l s : List ℕ) → OrderShows m f l s → In16Bits f
+order-shows-fit m h f _ _ (overtaken-shown e a) = rw e (omega (arith, a .lowest .few, a .lowest .ends, a .lowest .pair .ordered))
 
 -- what the exports allow
 pub replay-fits : {file trace : List ℕ} {start : ℕ} {stamps order₀ due₀ order due : List ℕ} {r : ℕ}
@@ -95,10 +102,25 @@ judge-trace-fits {file} {trace} x =
     of-file (readFile file) _ _ (λ n p e k. reader-fits file n p e (k .0))
     (λ m e. answered-fits (omega arith, omega arith, λ h. (omega arith, omega arith, λ i. tt)) (λ p d. trace-fits (path-few m trace (p .0)) d)) (x .outcome)
 
+-- a call that may show a trace
+module _ (Quiet : Machine → Type 0) {Shows : Machine → Fields → List ℕ → List ℕ → Type 0}
+    (fits : (m : Machine) → length (m .transitions) ≤ 256 → (f : Fields) (l s : List ℕ) → Shows m f l s → In16Bits f) where
+  showing-fits : (m : Machine) → length (m .transitions) ≤ 256 → {Kept : Type 0} {Left : List ℕ → List ℕ → Type 0} {f : Fields}
+      → Showing (Quiet m) (Shows m) Kept Left f → In16Bits f
+  showing-fits m h (says-none e p k) = rw e (omega arith)
+  showing-fits m h {f = f} (says-shown {trace = l} {stamps = s} x p) = fits m h f l s x
+
+  shown-fits : (a c : ℕ) (file trace₀ stamps₀ trace stamps : List ℕ) (f : Fields) → Bytes file → ShownOnFile a c Quiet Shows file trace₀ stamps₀ f trace stamps
+      → In16Bits f
+  shown-fits a c file trace₀ stamps₀ trace stamps f b x =
+      of-file (readFile file) _ _ (λ n p e k. reader-fits file n p e (k .0))
+      (λ m e. answered-fits (omega arith, omega arith, λ h. tt) (λ p d. showing-fits m (sound file m b e .0 .few) d)) x
+
 pub judge-fits : {file trace₀ stamps₀ trace stamps : List ℕ} {r : ℕ} → Bytes file → (x : JudgeAnswer file trace₀ stamps₀ r trace stamps) → In16Bits (x .said)
-judge-fits {file} b x =
-    of-file (readFile file) _ _ (λ n p e k. reader-fits file n p e (k .0))
-    (λ m e. answered-fits (omega arith, omega arith, λ h. tt) (λ p d. table-fits (sound file m b e .0 .few) d)) (x .outcome)
+judge-fits b x = shown-fits Strict table-shows-fit 270 540 _ _ _ _ _ (x .said) b (x .outcome)
+
+pub order-fits : {file trace₀ stamps₀ trace stamps : List ℕ} {r : ℕ} → Bytes file → (x : OrderAnswer file trace₀ stamps₀ r trace stamps) → In16Bits (x .said)
+order-fits b x = shown-fits KeepsOrder order-shows-fit 270 270 _ _ _ _ _ (x .said) b (x .outcome)
 
 -- taken apart, an export's number is its answer's fields
 apart : {r : ℕ} {f : Fields} → r ≡ packed f → In16Bits f → unpacked r ≡ f
@@ -117,3 +139,7 @@ judge-trace-apart x = apart (x .packs) (judge-trace-fits x)
 pub judge-apart : {file trace₀ stamps₀ trace stamps : List ℕ} {r : ℕ} → Bytes file → (x : JudgeAnswer file trace₀ stamps₀ r trace stamps)
     → unpacked r ≡ x .said
 judge-apart b x = apart (x .packs) (judge-fits b x)
+
+pub order-apart : {file trace₀ stamps₀ trace stamps : List ℕ} {r : ℕ} → Bytes file → (x : OrderAnswer file trace₀ stamps₀ r trace stamps)
+    → unpacked r ≡ x .said
+order-apart b x = apart (x .packs) (order-fits b x)

@@ -7,11 +7,17 @@ use Rattle.on_bytes.specs.Replays.{ReplayBytesOutcome}
 use Rattle.on_bytes.specs.Rewrites.{RewriteBytesOutcome}
 use Rattle.trace_bytes.specs.Traces.{JudgeTraceBytesOutcome}
 use Rattle.verdict_bytes.specs.Tables.{JudgeTableBytesOutcome}
+use Rattle.order_bytes.specs.Orders.{OrderBytesOutcome}
 use Rattle.sandgusset.specs.Packed.{packed}
 
 pub record JudgeAnswer (file trace₀ stamps₀ : List ℕ) (r : ℕ) (trace stamps : List ℕ) : Type 0 where
   pub said : Fields
   pub outcome : JudgeTableBytesOutcome file trace₀ stamps₀ said trace stamps
+  pub packs : r ≡ packed said
+
+pub record OrderAnswer (file trace₀ stamps₀ : List ℕ) (r : ℕ) (trace stamps : List ℕ) : Type 0 where
+  pub said : Fields
+  pub outcome : OrderBytesOutcome file trace₀ stamps₀ said trace stamps
   pub packs : r ≡ packed said
 
 pub record JudgeTraceAnswer (file trace stamps₀ : List ℕ) (r : ℕ) (stamps : List ℕ) : Type 0 where

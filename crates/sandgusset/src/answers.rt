@@ -2,6 +2,7 @@
 use replay::Replayed;
 use table::Refusal;
 use table::Written;
+use table_order::OnOrder;
 use table_verdict::OnTable;
 use verdict::OnTrace;
 ghost use mathlib.Core.Path.{_≡_};
@@ -11,6 +12,7 @@ ghost use Rattle.table.specs.Write.{writtenFields};
 ghost use Rattle.replay.specs.Play.{replayedFields};
 ghost use Rattle.verdict.specs.OnTrace.{traceFields};
 ghost use Rattle.table_verdict.specs.OnTable.{tableFields};
+ghost use Rattle.table_order.specs.OnOrder.{orderFields};
 ghost use Rattle.sandgusset.specs.Packed.{packed};
 
 // Four fields of 16 bits, the lowest first.
@@ -37,6 +39,16 @@ pub(crate) fn on_table(a: OnTable) -> u64
         OnTable::Split(i, j, n) => pack(256, i, j, n),
         OnTable::Turning(k, m) => pack(257, k, m, m),
         OnTable::Refused(r) => refused(r),
+    }
+}
+
+pub(crate) fn on_order(a: OnOrder) -> u64
+    ensures { λ r. ⌜ r ≡ packed (orderFields a) ⌝ }
+{
+    match a {
+        OnOrder::InOrder => pack(0, 0, 0, 0),
+        OnOrder::Overtaken(k, m) => pack(258, k, m, m),
+        OnOrder::Refused(r) => refused(r),
     }
 }
 

@@ -1,5 +1,5 @@
 // What a C host links (include/sandgusset.h): the byte calls, each answer packed into one number.
-ghost use Rattle.sandgusset.specs.Exports.{JudgeAnswer, JudgeTraceAnswer, ReplayAnswer, RewriteAnswer};
+ghost use Rattle.sandgusset.specs.Exports.{JudgeAnswer, OrderAnswer, JudgeTraceAnswer, ReplayAnswer, RewriteAnswer};
 
 mod answers;
 
@@ -10,6 +10,15 @@ pub extern "C" fn sandgusset_judge(file: &[u8], trace: &mut [u8], stamps: &mut [
 {
     let a = verdict_bytes::judge_table_bytes(file, trace, stamps);
     answers::on_table(a)
+}
+
+// Whether a table file keeps request order.
+#[no_mangle]
+pub extern "C" fn sandgusset_order(file: &[u8], trace: &mut [u8], stamps: &mut [u8]) -> u64
+    ensures { λ r. ⌜ OrderAnswer (now (file .entry)) (now (trace .entry)) (now (stamps .entry)) r (now (trace .exit)) (now (stamps .exit)) ⌝ }
+{
+    let a = order_bytes::order_table_bytes(file, trace, stamps);
+    answers::on_order(a)
 }
 
 // The verdict on a trace.

@@ -1,6 +1,9 @@
-// What the programs print: numbers, refusals, verdicts. No contract can say what io writes: what is printed is run, not proved. Every call is
-// safe, ends and is lent nothing that it could change; a place that a list lacks is printed as 0.
+// What the programs read and print: a table file, numbers, refusals, verdicts. No contract can say what io reads or writes: that is run, not
+// proved. Every call is safe, ends and is lent nothing that it could change; a place that a list lacks is printed as 0.
+use table::Checked;
+use table::Reading;
 use table::Refusal;
+use table_order::OnOrder;
 use table_verdict::OnTable;
 ghost use mathlib.Core.Path.{_≡_};
 ghost use lib.ListN.{getD};
@@ -49,15 +52,20 @@ fn wide_time(x: u32) -> usize
     x as usize
 }
 
+// Two numbers behind what stands there.
+fn two(first: usize, second: usize) {
+    say(b" ");
+    number(first);
+    say(b" ");
+    number(second);
+}
+
 // A word and two numbers: a verdict with its pair.
 pub fn pair(name: &[u8], first: usize, second: usize)
     ensures { λ _. ⊤ₛ }
 {
     say(name);
-    say(b" ");
-    number(first);
-    say(b" ");
-    number(second);
+    two(first, second);
 }
 
 // `refused N at P`.
@@ -70,15 +78,27 @@ pub fn refusal(r: Refusal)
     number(table::place(r));
 }
 
+// The table file on standard input; what is none is said. Later bytes can't change the answer; a read error counts as the end of input.
+pub fn read_input() -> Reading
+    ensures { λ _. ⊤ₛ }
+{
+    let mut file = [0u8; 8192];
+    let n = io::read_full(0, &mut file);
+    let a = table::read_table(&file[..n]);
+    let read = a.answer;
+    if let Checked::Refused(r) = read {
+        refusal(r);
+        say(b"\n");
+    }
+    a
+}
+
 // A line of four numbers: a step's.
 pub fn line(step: usize, first: usize, second: usize, third: usize)
     ensures { λ _. ⊤ₛ }
 {
     number(step);
-    say(b" ");
-    number(first);
-    say(b" ");
-    number(second);
+    two(first, second);
     say(b" ");
     number(third);
     say(b"\n");
@@ -138,5 +158,29 @@ pub fn on_table(v: OnTable, trace: &[u16], stamps: &[u32])
     }
     if let OnTable::Turning(_, m) = v {
         turning_lines(m, trace, stamps, after(stamps, m));
+    }
+}
+
+// Step, transition, stamp.
+fn overtaken_lines(m: usize, trace: &[u16], stamps: &[u32]) {
+    for s in 0..m {
+        number(s + 1);
+        two(step_at(trace, s), time_at(stamps, s));
+        say(b"\n");
+    }
+}
+
+// Whether a table keeps request order, with the lines of what is shown.
+pub fn on_order(v: OnOrder, trace: &[u16], stamps: &[u32])
+    ensures { λ _. ⊤ₛ }
+{
+    match v {
+        OnOrder::Refused(r) => refusal(r),
+        OnOrder::InOrder => say(b"in order"),
+        OnOrder::Overtaken(k, m) => pair(b"overtaken", k, m),
+    }
+    say(b"\n");
+    if let OnOrder::Overtaken(_, m) = v {
+        overtaken_lines(m, trace, stamps);
     }
 }

@@ -33,7 +33,8 @@ fn answer(name: &[u8], letter: u8, t: Table, numbers: &[u32], file: &mut [u8]) -
         b'p' => plays::play(t, numbers),
         b'j' => verdicts::judge_steps(t, numbers),
         b's' => verdicts::judge_short(t, numbers),
-        b'w' => verdicts::judge_whole(t, numbers),
+        b'w' => verdicts::judge_whole(false, t, numbers),
+        b'o' => verdicts::judge_whole(true, t, numbers),
         b'l' => verdicts::least_unsteady(t),
         _ => saying::say(b"UNKNOWN\n"),
     }

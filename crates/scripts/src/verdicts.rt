@@ -1,5 +1,6 @@
-// Verdicts on traces and on tables.
+// Verdicts on traces and on tables, and whether a table keeps request order.
 use table::Table;
+use table_order::OnOrder;
 use table_verdict::OnTable;
 use verdict::OnTrace;
 ghost use Prim.Native.Nat.{_<_};
@@ -12,7 +13,7 @@ fn say_on_trace(v: OnTrace) {
     }
 }
 
-// The two words of a turning trace.
+// The words that are shown.
 fn say_stamps(stamps: &[u32], n: usize) {
     saying::say(b",");
     for i in 0..n {
@@ -142,16 +143,51 @@ fn say_whole(v: OnTable, trace: &[u16], stamps: &[u32]) {
     }
 }
 
-fn judge_whole_in(t: Table, trace: &mut [u16], stamps: &mut [u32]) {
-    let v = table_verdict::judge_table(t, trace, stamps);
-    say_whole(v, trace, stamps);
+// The transition at a step counted from 1.
+fn at_step(trace: &[u16], step: usize) -> usize {
+    if step == 0 {
+        0
+    } else {
+        saying::step_at(trace, step - 1)
+    }
 }
 
-// `whole`: places for the trace, places for stamps.
-pub(crate) fn judge_whole(t: Table, numbers: &[u32]) {
+// What was answered about the order and left: transitions at K and M, the early word.
+fn say_order(v: OnOrder, trace: &[u16], stamps: &[u32]) {
+    match v {
+        OnOrder::Refused(r) => {
+            saying::refusal(r);
+            crate::rest::say_rest(trace, 0, stamps, 0);
+        }
+        OnOrder::InOrder => {
+            saying::say(b"in order");
+            crate::rest::say_rest(trace, 0, stamps, 0);
+        }
+        OnOrder::Overtaken(k, m) => {
+            saying::pair(b"overtaken", k, m);
+            saying::say(b", ");
+            saying::pair(b"transitions", at_step(trace, k), at_step(trace, m));
+            say_stamps(stamps, m);
+            crate::rest::say_rest(trace, m, stamps, m);
+        }
+    }
+}
+
+fn judge_whole_in(order: bool, t: Table, trace: &mut [u16], stamps: &mut [u32]) {
+    if order {
+        let v = table_order::order_table(t, trace, stamps);
+        say_order(v, trace, stamps);
+    } else {
+        let v = table_verdict::judge_table(t, trace, stamps);
+        say_whole(v, trace, stamps);
+    }
+}
+
+// `whole`, or `order`: places for the trace, places for stamps.
+pub(crate) fn judge_whole(order: bool, t: Table, numbers: &[u32]) {
     let mut trace = [65535u16; 300];
     let mut stamps = [65535u32; 600];
     let room = crate::text::at_most(numbers, 0, 300);
     let late = crate::text::at_most(numbers, 1, 600);
-    judge_whole_in(t, &mut trace[..room], &mut stamps[..late]);
+    judge_whole_in(order, t, &mut trace[..room], &mut stamps[..late]);
 }

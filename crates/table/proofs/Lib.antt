@@ -4,6 +4,7 @@ pub mod FitLaws
 pub mod NamedLaws
 pub mod RefusalLaws
 pub mod TestLaws
+pub mod ShowingLaws
 pub mod FrameLaws
 pub mod CellLaws
 pub mod ReadLaws

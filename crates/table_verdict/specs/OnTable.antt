@@ -1,18 +1,19 @@
 -- The verdict on a whole table, and what it leaves in the lent memory.
 use mathlib.Core.Path.{_≡_}
 use mathlib.Core.List.{List, [], _∷_, _++_}
-use Prim.Native.Nat.{ℕ, suc, _+_, _≤_, _<_}
-use lib.ListN.{length, getD}
+use Prim.Native.Nat.{ℕ, suc, _+_, _≤_}
+use lib.ListN.{length}
 use Rattle.model.specs.Answers.{Fields, fields}
-use Rattle.model.specs.Lists.{over, LeastPair}
+use Rattle.model.specs.Lists.{LeastPair}
 use Rattle.model.specs.Table.{Machine, at}
 use Rattle.model.specs.Trace.{Trace, steps}
 use Rattle.model.specs.Word.{Word, Activates}
-use Rattle.model.specs.Verdict.{Turns, TurnsFrom, Splits, SplitPair, Strict, OnlyTurns}
+use Rattle.model.specs.Verdict.{Turns, ShowsLowest, Splits, SplitPair, Strict, OnlyTurns}
 use Rattle.model.specs.Shown.{Shows, splitWord}
 use Rattle.model.specs.Stamps.{stampsOf, shownStamps}
 use Rattle.table.specs.Refusal.{refusedFields}
-use Rattle.table.specs.Tests.{Test, unless, Answered, afterTable}
+use Rattle.table.specs.Tests.{Test, unless, afterTable}
+use Rattle.table.specs.Showing.{Showing, ShownOn}
 use Rattle.table_verdict.specs.declared.OnTable.{OnTable}
 use Rattle.table_verdict.specs.declared.OnTable.the-variants.{Strict as StrictTable, Split, Turning, Refused}
 
@@ -43,26 +44,19 @@ pub record ShowsSplit (m : Machine) (i j : ℕ) (way : List ℕ) : Type 0 where
 -- a shown turning trace: "shown with the lowest-numbered reachable transition that can be step k of a turning pair. The trace ends at m"
 pub record ShowsTurning (m : Machine) (shown : List ℕ) (k last : ℕ) : Type 0 where
   pub only : OnlyTurns m
-  pub end : ℕ
-  pub path : Trace (m .transitions) (m .initial) shown end
-  pub few : length shown ≤ 270
-  pub ends : length shown ≡ suc last
-  pub lowest : (i : ℕ) → TurnsFrom m i → getD shown k 0 ≤ i
-  pub earliest : (x : ℕ) → x < k → getD shown x 0 ≡ getD shown k 0 → ⊥
-  pub turns : Turns (steps (m .transitions) shown) k last
+  pub lowest : ShowsLowest Turns m shown k last
   pub shows : Shows (steps (m .transitions) shown) k last
 
--- what is answered of a machine, on values and on bytes: strict, memory kept; or a trace and stamps, of which `Left` says how they stand in the
--- lent memory. A split shows the first of its two traces.
-pub data TableSays (m : Machine) (Kept : Type 0) (Left : List ℕ → List ℕ → Type 0) (f : Fields) : Type 0 where
-  says-strict : f ≡ fields 0 0 0 0 → Strict m → Kept → TableSays m Kept Left f
-  says-split : {i j : ℕ} {way : List ℕ} → f ≡ fields 256 i j (length way + 1) → ShowsSplit m i j way
-      → Left (way ++ (i ∷ [])) (stampsOf (wordAfter m way i j)) → TableSays m Kept Left f
-  says-turning : {shown : List ℕ} {k last : ℕ} → f ≡ fields 257 (suc k) (suc last) (suc last) → ShowsTurning m shown k last
-      → Left shown (shownStamps (steps (m .transitions) shown) k last) → TableSays m Kept Left f
+-- a shown trace and its stamps, by the answer's fields. A split shows the first of its two traces.
+pub data TableShows (m : Machine) (f : Fields) : List ℕ → List ℕ → Type 0 where
+  split-shown : {i j : ℕ} {way : List ℕ} → f ≡ fields 256 i j (length way + 1) → ShowsSplit m i j way
+      → TableShows m f (way ++ (i ∷ [])) (stampsOf (wordAfter m way i j))
+  turning-shown : {shown : List ℕ} {k last : ℕ} → f ≡ fields 257 (suc k) (suc last) (suc last) → ShowsTurning m shown k last
+      → TableShows m f shown (shownStamps (steps (m .transitions) shown) k last)
+
+-- what is answered of a machine, on values and on bytes: strict, or shown
+abbrev pub TableSays : Machine → Type 0 → (List ℕ → List ℕ → Type 0) → Fields → Type 0
+TableSays m = Showing (Strict m) (TableShows m)
 
 abbrev pub TableOutcome : Machine → List ℕ → List ℕ → Fields → List ℕ → List ℕ → Type 0
-TableOutcome m trace₀ stamps₀ f trace stamps =
-    Answered (tableTests m trace₀ stamps₀)
-    (TableSays m ((trace ≡ trace₀) × (stamps ≡ stamps₀)) (λ l s. (trace ≡ over l trace₀) × (stamps ≡ over s stamps₀)))
-    ((trace ≡ trace₀) × (stamps ≡ stamps₀)) f
+TableOutcome m trace₀ stamps₀ f trace stamps = ShownOn (tableTests m trace₀ stamps₀) (Strict m) (TableShows m) trace₀ stamps₀ f trace stamps

@@ -1,19 +1,18 @@
 // The decision on a sound table: split, else turning, else strict.
 use crate::OnTable;
 use crate::show::show_split;
-use crate::show::show_turn;
+use criterion::Goal;
 use reach::Marks;
 use split_pair::Pair;
 use table::Cells;
-use walks::Found;
+use witness::Witness;
 ghost use Prim.Native.Nat.{_≤_, _<_};
 ghost use lib.ListN.{length};
 ghost use Rattle.table.specs.Rows.{rows};
 ghost use Rattle.table.specs.Fit.{Sound};
-ghost use Rattle.table_verdict.specs.Shown.{TurnRoom};
 ghost use Rattle.table_verdict.specs.Decided.{Decision, TurnJudged};
 
-// The lowest transition that starts a turning pair, shown; or strict.
+// The lowest transition that starts a turning pair, shown with the late and the early word; or strict.
 fn judge_turning(
     cells: &Cells,
     count: usize,
@@ -22,15 +21,13 @@ fn judge_turning(
     trace: &mut [u16],
     stamps: &mut [u32],
 ) -> OnTable
-    requires { ⌜ Sound (now cells) count × TurnRoom (rows (now cells) count) (now dist) (now via) (now trace) (now stamps) ⌝ }
     ensures { λ r. ⌜ TurnJudged (now (cells .entry)) count (now (dist .entry)) (now (via .entry)) (now (trace .entry)) (now (stamps .entry))
         r (now (trace .exit)) (now (stamps .exit)) ⌝ }
 {
-    let found = walks::lowest(cells, count, dist);
-    let Found::At(k) = found else {
-        return OnTable::Strict;
-    };
-    show_turn(cells, count, dist, via, k, trace, stamps)
+    match witness::show_lowest(Goal::Turns, cells, count, dist, via, trace, stamps) {
+        Witness::Shown(n, all) => OnTable::Turning(n + 1, all),
+        Witness::Nothing => OnTable::Strict,
+    }
 }
 
 // The whole decision.

@@ -29,15 +29,17 @@ pub fn judge_parts(
     ensures { λ r. ⌜ TableOutcome (machineOf (tableIn states initial count (now (cells .entry)))) (now (trace .entry)) (now (stamps .entry))
         (tableFields r) (now (trace .exit)) (now (stamps .exit)) ⌝ }
 {
-    let checked = table::check_parts(states, initial, count, cells);
+    let checked = witness::admitted(
+        states,
+        initial,
+        count,
+        cells,
+        trace.len(),
+        stamps.len(),
+        540,
+    );
     if let Checked::Refused(r) = checked {
         return OnTable::Refused(r);
-    }
-    if trace.len() < 270 {
-        return OnTable::Refused(Refusal::NoRoom);
-    }
-    if stamps.len() < 540 {
-        return OnTable::Refused(Refusal::NoRoom);
     }
     decide::decide(cells, count, initial, trace, stamps)
 }

@@ -106,7 +106,7 @@ module _ {c l : List ℕ} {k : ℕ} {f : Transition} {m u late : ℕ} (seen : Lo
   none-later h j x =
       dite (decLt j m) (λ a. seen .none-yet j a x) (λ b.
       spent-none (at tr k) (at tr j) (sumU tr k m) (sumU tr k j) (rw (seen .first, next-low) at h) (all-at none (seen .ready .ranged) j (x .inside) .soon)
-      (sum-grows (λ t. t .u) tr k m j (omega arith)) (x .crosses .above))
+      (sum-grows (λ t. t .u) tr k m j (omega arith)) (x .meets .above))
 
   -- what the code asks is the criterion
   asked : Crosses f (said s) (u + s .u) (late + g) ≡ Crosses (at tr k) (at tr m) (sumU tr k m) (sumLate tr k m)
@@ -114,7 +114,7 @@ module _ {c l : List ℕ} {k : ℕ} {f : Transition} {m u late : ℕ} (seen : Lo
 
   pub turns-here : Crosses f (said s) (u + s .u) (late + g) → PartnerOf tr k (With m)
   turns-here b = (
-    record { ordered = seen .after; inside = inside; crosses = rw asked at b },
+    record { ordered = seen .after; inside = inside; meets = rw asked at b },
     λ j x. dite (decLt j m) (λ a. absurd (seen .none-yet j a x)) (λ b. omega arith),
   )
 
@@ -140,7 +140,7 @@ module _ {c l : List ℕ} {k : ℕ} {f : Transition} {m u late : ℕ} (seen : Lo
         low = rw e next-low;
         high = rw e next-high;
         none-yet = λ j h x. ⊎-elim
-            (λ (q : j ≡ m). no-turn (rw asked (rw q at (x .crosses))))
+            (λ (q : j ≡ m). no-turn (rw asked (rw q at (x .meets))))
             (λ (a : j < m). seen .none-yet j a x)
             (eq-or-lt-of-le (omega arith));
       }

@@ -12,14 +12,18 @@ use Rattle.model.specs.Table.{Transition, InRange, at, none}
 use Rattle.model.specs.Trace.{Trace, steps}
 use Rattle.model.specs.Span.{span, lateSum}
 use Rattle.model.specs.Shown.{lateGap}
-use Rattle.model.specs.Criterion.{slack, TurnsTo}
+use Rattle.model.specs.Criterion.{Above, slack}
 use Rattle.model.proofs.Lists.{all-at}
-use Rattle.model.proofs.CriterionLaws.{above-less, above-bound, below-more, slack-fits, slack-small}
-use Rattle.walks.specs.Walks.{Seen, Walk, ShownWalk}
-use Rattle.walks.specs.Best.{cell, Exact, Filled, Roomy, Closes, ReadyFor, Deeper, Explains, Explained, LeastRow, Stands, Back, EndSum, Went}
+use Rattle.model.proofs.CriterionLaws.{above-less, above-bound, slack-fits, slack-small}
+use Rattle.criterion.specs.declared.Goal.{Goal}
+use Rattle.criterion.specs.declared.Goal.the-variants.{Turns, Overtakes}
+use Rattle.criterion.specs.Goals.{Meets}
+use Rattle.criterion.proofs.GoalLaws.{goal-sought}
+use Rattle.walks.specs.Walks.{Seen, Walk, EndsIn, ShownWalk}
+use Rattle.walks.specs.Best.{cell, asked, Exact, Filled, Roomy, Closes, ReadyFor, Deeper, Explains, Explained, LeastRow, Stands, Back, EndSum, Went}
 use Rattle.walks.proofs.WalkLaws.{sum-last, trace-last, Last, walk-none, walk-wide, walk-on, walk-last, walk-zero}
 use Rattle.walks.proofs.BestLaws.{filled-less}
-use Rattle.walks.proofs.EndLaws.{turns-by, turns-closes}
+use Rattle.walks.proofs.EndLaws.{ends-by, ends-closes}
 
 -- one more number behind those that stand from place p on
 store-more : (p n : ℕ) (old rest : List ℕ) (j : ℕ) → length rest ≡ n → p + n < length old
@@ -217,18 +221,41 @@ show-ready {top = top} z len d s f =
       covers = λ m h. omega (arith, d .covers m (omega arith));
     })
 
--- the sum from which an end is walked back, with the two transitions that the code has read
-module _ {ts : List Transition} {k m : ℕ} {best : List ℕ} (z : ReadyFor ts k best) (t : TurnsTo ts k m)
-    {first last : Transition} (df : Seen ts k first) (dl : Seen ts m last) where
-  closed : Closes (at ts k) (at ts m) (cell best (slack (at ts k) (at ts m)) (at ts m .from))
-  closed = turns-closes k z m t
+-- the number that is asked for, of the last row's
+asked-most : (goal : Goal) {x late : ℕ} → x ≡ suc late → asked goal x ≤ x
+asked-most Turns e = omega arith
+asked-most Overtakes e = omega arith
 
-  module _ {a : ℕ} (l : LeastRow best (at ts m .from) (slack (at ts k) (at ts m)) a) where
+asked-some : (goal : Goal) {x late : ℕ} → x ≡ suc late → 1 ≤ asked goal x
+asked-some Turns e = omega arith
+asked-some Overtakes e = omega arith
+
+-- with it the goal is met
+row-meets : (goal : Goal) (k m : Transition) (u : ℕ) {x late y : ℕ} (sum : ℕ) → x ≡ suc late → asked goal x ≤ y → Meets goal k m u (late + lateGap m) → Above k m sum
+    → Meets goal k m sum (y - 1 + lateGap m)
+row-meets Turns k m u sum e h c a = goal-sought Turns .moves k m _ _ _ _ c a (omega arith)
+row-meets Overtakes k m u sum e h c a = a
+
+-- the sum from which an end is walked back, with the two transitions that the code has read
+module _ (goal : Goal) {ts : List Transition} {k m : ℕ} {best : List ℕ} (z : ReadyFor ts k best) (t : EndsIn goal ts k m)
+    {first last : Transition} (df : Seen ts k first) (dl : Seen ts m last) where
+  closed : Closes goal (at ts k) (at ts m) (cell best (slack (at ts k) (at ts m)) (at ts m .from))
+  closed = ends-closes goal k z m t
+
+  -- the last row has that number
+  pub enough-there : asked goal (cell best (slack (at ts k) (at ts m)) (at ts m .from)) ≤ cell best (slack (at ts k) (at ts m)) (at ts m .from)
+  enough-there = asked-most goal (closed .some)
+
+  module _ {a : ℕ}
+      (l : LeastRow best (at ts m .from) (slack (at ts k) (at ts m)) (asked goal (cell best (slack (at ts k) (at ts m)) (at ts m .from))) a) where
     fk : InRange 32 (at ts k)
     fk = all-at none (z .roomy .fine) k (df .known)
 
     fm : InRange 32 (at ts m)
     fm = all-at none (z .roomy .fine) m (dl .known)
+
+    some-there : 1 ≤ cell best a (at ts m .from)
+    some-there = omega (arith, l .reaches, asked-some goal (closed .some))
 
     end-stands : Stands ts (at ts k .to) best (at ts m .from) a
     end-stands =
@@ -237,37 +264,46 @@ module _ {ts : List Transition} {k m : ℕ} {best : List ℕ} (z : ReadyFor ts k
           filled = filled-less (omega (arith, l .within, z .covers m (dl .known))) (z .filled);
           state = fm .leaves;
           high = omega (arith, l .within, slack-small (at ts k) (at ts m) fk fm);
-          some = omega (arith, l .same, closed .some);
-          least = λ b x y. l .least b x (y ∙ l .same);
+          some = some-there;
+          least = λ b x y. l .least b x (omega (arith, y, l .reaches));
         }
 
-    end-at : EndSum ts k m best (a + at ts m .u)
+    end-at : EndSum goal ts k m best (a + at ts m .u)
     end-at =
-        let o = above-less (at ts k) (at ts m) _ (a + at ts m .u) (slack-fits (at ts k) (at ts m) (closed .crosses .above)) (omega (arith, l .within)) in
+        let above = goal-sought goal .above (at ts k) (at ts m) _ _ (closed .meets) in
+        let o = above-less (at ts k) (at ts m) _ (a + at ts m .u) (slack-fits (at ts k) (at ts m) above) (omega (arith, l .within)) in
         record {
           back = record { known = dl .known; left = a; whole = refl; stands = end-stands };
           few = omega (arith, above-bound (at ts k) (at ts m) (a + at ts m .u) 1 240 o (fm .soon) (fk .late));
-          late = closed .late;
-          some = l .same ∙ closed .some;
-          crosses = record { above = o; below = closed .crosses .below };
+          late = cell best a (at ts m .from) - 1;
+          some = omega (arith, some-there);
+          meets = row-meets goal (at ts k) (at ts m) _ _ (closed .some) (l .reaches) (closed .meets) o;
         }
 
-  pub end-sum : {top a : ℕ} → top ≡ slack first last → LeastRow best (last .from) top a → EndSum ts k m best (a + last .u)
+  pub end-sum : {top a : ℕ} → top ≡ slack first last → LeastRow best (last .from) top (asked goal (cell best top (last .from))) a
+      → EndSum goal ts k m best (a + last .u)
   end-sum {top} {a} q r =
-      let l : LeastRow best (at ts m .from) (slack (at ts k) (at ts m)) a = rw (df .here, dl .here) (rw q at r) in
+      let l : LeastRow best (at ts m .from) (slack (at ts k) (at ts m)) (asked goal (cell best (slack (at ts k) (at ts m)) (at ts m .from))) a =
+      rw (df .here, dl .here) (rw q at r) in
       rw (dl .here) at (end-at l)
 
+  pub enough-here : {top x : ℕ} → top ≡ slack first last → x ≡ cell best top (last .from) → asked goal x ≤ cell best top (last .from)
+  enough-here {top} q e =
+      let h : asked goal (cell best (slack first last) (last .from)) ≤ cell best (slack first last) (last .from) = rw (← df .here, ← dl .here) enough-there in
+      rw (e, q) h
+
 -- the walk from that sum, with k before it
-module _ {ts : List Transition} {k m : ℕ} {best : List ℕ} {sum : ℕ} (x : EndSum ts k m best sum) where
-  abbrev sum-turns : (rest : List ℕ) → Trace ts (at ts k .to) rest (at ts m .from) → sum ≡ span (steps ts rest) .u + at ts m .u
-      → cell best (span (steps ts rest) .u) (at ts m .from) ≡ suc (lateSum (steps ts rest)) → TurnsTo ts k m
-  sum-turns rest p u b =
+module _ {goal : Goal} {ts : List Transition} {k m : ℕ} {best : List ℕ} {sum : ℕ} (x : EndSum goal ts k m best sum) where
+  abbrev sum-ends : (rest : List ℕ) → Trace ts (at ts k .to) rest (at ts m .from) → sum ≡ span (steps ts rest) .u + at ts m .u
+      → cell best (span (steps ts rest) .u) (at ts m .from) ≡ suc (lateSum (steps ts rest)) → EndsIn goal ts k m
+  sum-ends rest p u b =
       let q : x .back .left ≡ span (steps ts rest) .u = omega (arith, x .back .whole) in
       let y = rw q at (x .some) in
-      turns-by rest (x .back .known) p (rw u at (x .crosses .above)) (below-more (at ts k) (at ts m) _ _ (x .crosses .below) (omega arith))
+      let above = goal-sought goal .above (at ts k) (at ts m) sum _ (x .meets) in
+      ends-by goal rest (x .back .known) p (goal-sought goal .moves (at ts k) (at ts m) sum _ _ _ (x .meets) (rw u at above) (omega arith))
 
   show-walk : (p : ℕ) (old out : List ℕ) (n : ℕ) → p + 239 ≤ length old → Went ts (at ts k .to) best m sum (p + 1) (set old p k) out n
-      → ShownWalk ts k m p old out (n + 1)
+      → ShownWalk goal ts k m p old out (n + 1)
   show-walk p old out n h w =
       let r : p < length old = omega arith in
       let e : p + 1 + n ≡ p + (n + 1) = omega arith in
@@ -277,7 +313,7 @@ module _ {ts : List Transition} {k m : ℕ} {best : List ℕ} {sum : ℕ} (x : E
       let q : take (p + 1) (set old p k) ++ (l ++ drop (p + 1 + n) (set old p k)) ≡ take p old ++ ((k ∷ l) ++ drop (p + (n + 1)) old) =
       rw (f, g) (append-assoc (take p old) (k ∷ []) (l ++ drop (p + (n + 1)) old)) in
       record {
-        turns = sum-turns (w .rest) (w .path) (w .whole) (w .late);
+        to = sum-ends (w .rest) (w .path) (w .whole) (w .late);
         number = omega (arith, w .number);
         few = omega (arith, w .short, x .few);
         traced = w .traced ∙ q;
@@ -289,7 +325,7 @@ module _ {ts : List Transition} {k m : ℕ} {best : List ℕ} {sum : ℕ} (x : E
     end-back = rw (df .here) at (x .back)
 
     pub end-shown : {i p : ℕ} {old out : List ℕ} {n : ℕ} → i ≡ k → p + 239 ≤ length old → Went ts (first .to) best m sum (p + 1) (set old p i) out n
-        → ShownWalk ts k m p old out (n + 1)
+        → ShownWalk goal ts k m p old out (n + 1)
     end-shown {i} {p} {old} {out} {n} di h w =
         let v : Went ts (at ts k .to) best m sum (p + 1) (set old p k) out n = rw (df .here, ← di) w in
         show-walk p old out n h v

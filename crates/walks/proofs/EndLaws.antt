@@ -1,4 +1,4 @@
--- Laws of the ends of a turning pair, and of the lowest transition that starts one.
+-- Laws of the ends of a pair of what is asked, and of the lowest transition that starts one.
 use mathlib.Core.Path.{_≡_, refl}
 use mathlib.Core.Logic.{⊎-elim, _↔_}
 use mathlib.Core.List.{List, [], _∷_}
@@ -13,105 +13,107 @@ use Rattle.model.specs.Table.{Transition, InRange, at, none}
 use Rattle.model.specs.Trace.{Trace, steps}
 use Rattle.model.specs.Span.{span, lateSum}
 use Rattle.model.specs.Shown.{lateGap}
-use Rattle.model.specs.Criterion.{Above, Below, Crosses, slack, TurnsTo}
+use Rattle.model.specs.Criterion.{Above, slack}
 use Rattle.model.proofs.Lists.{all-at}
 use Rattle.model.proofs.Paths.{trace-split}
-use Rattle.model.proofs.CriterionLaws.{above-less, below-more as below-later, slack-fits, slack-most, slack-small}
+use Rattle.model.proofs.CriterionLaws.{above-less, slack-fits, slack-most, slack-small}
+use Rattle.criterion.specs.declared.Goal.{Goal}
+use Rattle.criterion.specs.Goals.{Meets}
+use Rattle.criterion.proofs.GoalLaws.{goal-sought}
 use Rattle.walks.specs.declared.Found.{Found}
 use Rattle.walks.specs.declared.Found.the-variants.{At, Nothing}
-use Rattle.walks.specs.Walks.{Seen, Walk, Arrives, StartsAt, Starts, Least, LeastBelow, Among}
+use Rattle.walks.specs.Walks.{Seen, Walk, Arrives, EndsIn, StartsAt, Starts, Least, LeastBelow, Among}
 use Rattle.walks.specs.Best.{cell, Filled, Roomy, Closes, ReadyFor, ReadyAt, Deeper, Deep}
 use Rattle.walks.proofs.Found.{the-type}
 use Rattle.walks.proofs.WalkLaws.{sum-last, trace-last}
 use Rattle.walks.proofs.BestLaws.{cell-small}
 
--- a walk, then m, by its sums
-abbrev pub turns-by : {ts : List Transition} {k m : ℕ} (rest : List ℕ) → m < length ts → Trace ts (at ts k .to) rest (at ts m .from)
-    → Above (at ts k) (at ts m) (span (steps ts rest) .u + at ts m .u) → Below (at ts k) (at ts m) (lateSum (steps ts rest) + lateGap (at ts m))
-    → TurnsTo ts k m
-turns-by {ts} {k} {m} rest h p above below =
-    record {
-      rest = rest;
-      end = at ts m .to;
-      walk = trace-last ts (at ts k .to) rest m h p;
-      crosses = record {
-        above = above-less (at ts k) (at ts m) _ _ above (omega (arith, sum-last ts (λ t. t .u) rest m));
-        below = below-later (at ts k) (at ts m) _ _ below (omega (arith, sum-last ts lateGap rest m));
-      };
-    }
-
--- the end of a turning pair is a transition of the table, where a walk arrives
-module _ {ts : List Transition} {k m : ℕ} (t : TurnsTo ts k m) where
-  turns-split : (e : ℕ) × Trace ts (at ts k .to) (t .rest) e × Trace ts e (m ∷ []) (t .end)
-  turns-split = trace-split ts (at ts k .to) (t .end) (t .rest) (m ∷ []) (t .walk)
-
-  pub turns-known : m < length ts
-  turns-known = turns-split .2 .0
-
-  turns-rest : Trace ts (at ts k .to) (t .rest) (at ts m .from)
-  turns-rest = rw (turns-split .2 .1) (turns-split .1)
-
-  -- a sum that m's own u and that of the walk before it make up
-  turns-above : (x : ℕ) → x ≤ span (steps ts (t .rest)) .u + at ts m .u → Above (at ts k) (at ts m) x
-  turns-above x h = above-less (at ts k) (at ts m) _ x (t .crosses .above) (omega (arith, sum-last ts (λ t. t .u) (t .rest) m))
-
--- the test of an end, with the late gap that the code has read
-module _ {k m : Transition} {x g : ℕ} (e : g ≡ lateGap m) where
-  pub not-closed : (Crosses k m (m .u) (x - 1 + g) → ⊥) → Closes k m x → ⊥
-  not-closed n p = let q : p .late ≡ x - 1 = omega (arith, p .some) in n (rw e (rw q at (p .crosses)))
-
-  pub is-closed : (x ≡ 0 → ⊥) → Crosses k m (m .u) (x - 1 + g) → Closes k m x
-  is-closed n p = record { late = x - 1; some = omega arith; crosses = rw e at p }
-
--- the table of numbers and the walks say the same of an end
-module _ {ts : List Transition} (k : ℕ) {best : List ℕ} (z : ReadyFor ts k best) (m : ℕ) where
-  abbrev a : ℕ
-  a = slack (at ts k) (at ts m)
-
-  closes-turns : m < length ts → Closes (at ts k) (at ts m) (cell best a (at ts m .from)) → TurnsTo ts k m
-  closes-turns h p =
-      let f = all-at none (z .roomy .fine) m h in
-      let w : Walk ts (at ts k .to) (at ts m .from) a (p .late) = z .filled .row a (z .covers m h) .real (at ts m .from) (p .late) (f .leaves) (p .some) in
-      turns-by (w .way) h (w .path)
-      (above-less (at ts k) (at ts m) _ _ (slack-fits (at ts k) (at ts m) (p .crosses .above)) (omega (arith, w .fits)))
-      (below-later (at ts k) (at ts m) _ _ (p .crosses .below) (omega (arith, w .late)))
-
-  pub turns-closes : TurnsTo ts k m → Closes (at ts k) (at ts m) (cell best a (at ts m .from))
-  turns-closes t =
-      let h = turns-known t in
-      let f = all-at none (z .roomy .fine) m h in
-      let b : ℕ = lateSum (steps ts (t .rest)) in
-      let o = slack-most (at ts k) (at ts m) (span (steps ts (t .rest)) .u) (turns-above t _ (omega arith)) in
-      let w : Walk ts (at ts k .to) (at ts m .from) a b = record { way = t .rest; path = turns-rest t; fits = o; late = refl } in
-      let p = z .filled .row a (z .covers m h) .most (at ts m .from) b (f .leaves) w in
+-- the law of what is asked, and the walks that end in it
+module _ (goal : Goal) where
+  -- a walk, then m, by its sums
+  abbrev pub ends-by : {ts : List Transition} {k m : ℕ} (rest : List ℕ) → m < length ts → Trace ts (at ts k .to) rest (at ts m .from)
+      → Meets goal (at ts k) (at ts m) (span (steps ts rest) .u + at ts m .u) (lateSum (steps ts rest) + lateGap (at ts m)) → EndsIn goal ts k m
+  ends-by {ts} {k} {m} rest h p x =
+      let above = goal-sought goal .above (at ts k) (at ts m) _ _ x in
       record {
-        late = cell best a (at ts m .from) - 1;
-        some = omega arith;
-        crosses = record {
-          above = turns-above t (at ts m .u) (omega arith);
-          below = below-later (at ts k) (at ts m) _ _ (t .crosses .below) (omega (arith, sum-last ts lateGap (t .rest) m));
-        };
+        rest = rest;
+        end = at ts m .to;
+        walk = trace-last ts (at ts k .to) rest m h p;
+        meets = goal-sought goal .moves (at ts k) (at ts m) _ _ _ _ x
+            (above-less (at ts k) (at ts m) _ _ above (omega (arith, sum-last ts (λ t. t .u) rest m))) (omega (arith, sum-last ts lateGap rest m));
       }
 
-  -- with the transitions and the numbers that the code has read
-  module _ {first last : Transition} (df : Seen ts k first) (dl : Seen ts m last) {row : ℕ} (dr : row ≡ slack first last) where
-    -- the number's place
-    pub number-there : (length best ≡ 7648) × (row ≤ 238) × (last .from < 32)
-    number-there = (z .roomy .size, omega (arith, slack-small first last (df .fine) (dl .fine)), dl .fine .leaves)
+  -- the end of a pair is a transition of the table, where a walk arrives
+  module _ {ts : List Transition} {k m : ℕ} (t : EndsIn goal ts k m) where
+    end-split : (e : ℕ) × Trace ts (at ts k .to) (t .rest) e × Trace ts e (m ∷ []) (t .end)
+    end-split = trace-split ts (at ts k .to) (t .end) (t .rest) (m ∷ []) (t .walk)
 
-    module _ {x : ℕ} (dx : x ≡ cell best row (last .from)) where
-      number-is : x ≡ cell best a (at ts m .from)
-      number-is = rw (df .here, dl .here) (rw dr at dx)
+    pub end-known : m < length ts
+    end-known = end-split .2 .0
 
-      pub end-law : Closes first last x ↔ TurnsTo ts k m
-      end-law = rw (← df .here, ← dl .here, number-is) (closes-turns (dl .known), turns-closes)
+    end-rest : Trace ts (at ts k .to) (t .rest) (at ts m .from)
+    end-rest = rw (end-split .2 .1) (end-split .1)
 
-      pub number-small : x < 4278190080
-      number-small =
-          let f = all-at none (z .roomy .fine) m (dl .known) in
-          let s = cell-small best a (at ts m .from) (z .roomy .fine) (z .filled .row a (z .covers m (dl .known))) (f .leaves) in
-          let l = slack-small (at ts k) (at ts m) (all-at none (z .roomy .fine) k (df .known)) f in
-          omega (arith, number-is)
+    -- a sum that m's own u and that of the walk before it make up
+    end-above : (x : ℕ) → x ≤ span (steps ts (t .rest)) .u + at ts m .u → Above (at ts k) (at ts m) x
+    end-above x h =
+        above-less (at ts k) (at ts m) _ x (goal-sought goal .above (at ts k) (at ts m) _ _ (t .meets)) (omega (arith, sum-last ts (λ t. t .u) (t .rest) m))
+
+  -- the test of an end, with the late gap that the code has read
+  module _ {k m : Transition} {x g : ℕ} (e : g ≡ lateGap m) where
+    pub not-closed : (Meets goal k m (m .u) (x - 1 + g) → ⊥) → Closes goal k m x → ⊥
+    not-closed n p = let q : p .late ≡ x - 1 = omega (arith, p .some) in n (rw e (rw q at (p .meets)))
+
+    pub is-closed : (x ≡ 0 → ⊥) → Meets goal k m (m .u) (x - 1 + g) → Closes goal k m x
+    is-closed n p = record { late = x - 1; some = omega arith; meets = rw e at p }
+
+  -- the table of numbers and the walks say the same of an end
+  module _ {ts : List Transition} (k : ℕ) {best : List ℕ} (z : ReadyFor ts k best) (m : ℕ) where
+    abbrev a : ℕ
+    a = slack (at ts k) (at ts m)
+
+    closes-ends : m < length ts → Closes goal (at ts k) (at ts m) (cell best a (at ts m .from)) → EndsIn goal ts k m
+    closes-ends h p =
+        let f = all-at none (z .roomy .fine) m h in
+        let w : Walk ts (at ts k .to) (at ts m .from) a (p .late) = z .filled .row a (z .covers m h) .real (at ts m .from) (p .late) (f .leaves) (p .some) in
+        let above = slack-fits (at ts k) (at ts m) (goal-sought goal .above (at ts k) (at ts m) _ _ (p .meets)) in
+        ends-by (w .way) h (w .path) (goal-sought goal .moves (at ts k) (at ts m) _ _ _ _ (p .meets)
+        (above-less (at ts k) (at ts m) _ _ above (omega (arith, w .fits))) (omega (arith, w .late)))
+
+    pub ends-closes : EndsIn goal ts k m → Closes goal (at ts k) (at ts m) (cell best a (at ts m .from))
+    ends-closes t =
+        let h = end-known t in
+        let f = all-at none (z .roomy .fine) m h in
+        let b : ℕ = lateSum (steps ts (t .rest)) in
+        let o = slack-most (at ts k) (at ts m) (span (steps ts (t .rest)) .u) (end-above t _ (omega arith)) in
+        let w : Walk ts (at ts k .to) (at ts m .from) a b = record { way = t .rest; path = end-rest t; fits = o; late = refl } in
+        let p = z .filled .row a (z .covers m h) .most (at ts m .from) b (f .leaves) w in
+        record {
+          late = cell best a (at ts m .from) - 1;
+          some = omega arith;
+          meets = goal-sought goal .moves (at ts k) (at ts m) _ _ _ _ (t .meets) (end-above t (at ts m .u) (omega arith))
+              (omega (arith, sum-last ts lateGap (t .rest) m));
+        }
+
+    -- with the transitions and the numbers that the code has read
+    module _ {first last : Transition} (df : Seen ts k first) (dl : Seen ts m last) {row : ℕ} (dr : row ≡ slack first last) where
+      -- the number's place
+      pub number-there : (length best ≡ 7648) × (row ≤ 238) × (last .from < 32)
+      number-there = (z .roomy .size, omega (arith, slack-small first last (df .fine) (dl .fine)), dl .fine .leaves)
+
+      module _ {x : ℕ} (dx : x ≡ cell best row (last .from)) where
+        number-is : x ≡ cell best a (at ts m .from)
+        number-is = rw (df .here, dl .here) (rw dr at dx)
+
+        pub end-law : Closes goal first last x ↔ EndsIn goal ts k m
+        end-law = rw (← df .here, ← dl .here, number-is) (closes-ends (dl .known), ends-closes)
+
+        pub number-small : x < 4278190080
+        number-small =
+            let f = all-at none (z .roomy .fine) m (dl .known) in
+            let s = cell-small best a (at ts m .from) (z .roomy .fine) (z .filled .row a (z .covers m (dl .known))) (f .leaves) in
+            let l = slack-small (at ts k) (at ts m) (all-at none (z .roomy .fine) k (df .known)) f in
+            omega (arith, number-is)
 
 -- the tests of an arrival, with the transition that the code has read
 module _ {ts : List Transition} {dist : List ℕ} {s k : ℕ} {t : Transition} (z : Seen ts k t) where
@@ -195,23 +197,23 @@ module _ {ts : List Transition} {dist : List ℕ} {s k : ℕ} (p : Arrives ts di
   pub ready-for : {best : List ℕ} → ReadyAt ts dist s (k + 1) best → ReadyFor ts k best
   ready-for z = rw (p .to) (z .ready k (omega arith) p)
 
-  pub is-start : (r : Found) → Least (TurnsTo ts k) r → tagOf the-type r ≡ 0 → StartsAt ts dist s k
-  is-start (At m) l e = record { arrives = p; after = record { m = m; turns = l .0 } }
-  is-start Nothing l e = absurd (omega arith)
+  pub is-start : (goal : Goal) (r : Found) → Least (EndsIn goal ts k) r → tagOf the-type r ≡ 0 → StartsAt goal ts dist s k
+  is-start goal (At m) l e = record { arrives = p; after = record { m = m; to = l .0 } }
+  is-start goal Nothing l e = absurd (omega arith)
 
 -- the lowest start over the arrival states below s
-abbrev pub StartsUnder : List Transition → List ℕ → ℕ → ℕ → Type 0
-StartsUnder ts dist s k = (at ts k .to < s) × Starts ts dist k
+abbrev pub StartsUnder : Goal → List Transition → List ℕ → ℕ → ℕ → Type 0
+StartsUnder goal ts dist s k = (at ts k .to < s) × Starts goal ts dist k
 
-module _ {ts : List Transition} {dist : List ℕ} where
-  pub lowest-none : {n : ℕ} → LeastBelow (StartsUnder ts dist 0) n n
+module _ {goal : Goal} {ts : List Transition} {dist : List ℕ} where
+  pub lowest-none : {n : ℕ} → LeastBelow (StartsUnder goal ts dist 0) n n
   lowest-none = record { within = omega arith; found = λ h. absurd (omega arith); before = λ x h p. omega (arith, p .0) }
 
-  starts-here : {s k : ℕ} → at ts k .to ≡ s → StartsAt ts dist s k → StartsUnder ts dist (s + 1) k
+  starts-here : {s k : ℕ} → at ts k .to ≡ s → StartsAt goal ts dist s k → StartsUnder goal ts dist (s + 1) k
   starts-here q p = (omega arith, rw (← q) at p)
 
-  pub lowest-more : {n s low r : ℕ} → LeastBelow (StartsUnder ts dist s) n low → LeastBelow (StartsAt ts dist s) low r
-      → LeastBelow (StartsUnder ts dist (s + 1)) n r
+  pub lowest-more : {n s low r : ℕ} → LeastBelow (StartsUnder goal ts dist s) n low → LeastBelow (StartsAt goal ts dist s) low r
+      → LeastBelow (StartsUnder goal ts dist (s + 1)) n r
   lowest-more {n} {s} {low} {r} a b =
       record {
         within = omega (arith, a .within, b .within);
@@ -225,12 +227,12 @@ module _ {ts : List Transition} {dist : List ℕ} where
             (eq-or-lt-of-le (omega (arith, p .0)));
       }
 
-  module _ (fine : All (InRange 32) ts) {n s low : ℕ} (len : length ts ≡ n) (all : 32 ≤ s) (a : LeastBelow (StartsUnder ts dist s) n low) where
-    under : (k : ℕ) → Starts ts dist k → StartsUnder ts dist s k
+  module _ (fine : All (InRange 32) ts) {n s low : ℕ} (len : length ts ≡ n) (all : 32 ≤ s) (a : LeastBelow (StartsUnder goal ts dist s) n low) where
+    under : (k : ℕ) → Starts goal ts dist k → StartsUnder goal ts dist s k
     under k p = (omega (arith, all-at none fine k (p .arrives .known) .arrives), p)
 
-    pub lowest-at : low < n → Least (Starts ts dist) (At low)
+    pub lowest-at : low < n → Least (Starts goal ts dist) (At low)
     lowest-at h = (a .found h .1, λ x l p. a .before x l (under x p))
 
-    pub lowest-nothing : n ≤ low → Least (Starts ts dist) Nothing
+    pub lowest-nothing : n ≤ low → Least (Starts goal ts dist) Nothing
     lowest-nothing h x p = a .before x (omega (arith, p .arrives .known)) (under x p)

@@ -8,20 +8,22 @@ use native.Mathlib.Omega.{arith}
 use lib.ListN.{length, getD}
 use Rattle.model.specs.Table.{Machine, at}
 use Rattle.model.specs.Trace.{Reached}
-use Rattle.model.specs.Criterion.{WalkTurns}
+use Rattle.model.specs.Criterion.{WalkFrom}
+use Rattle.criterion.specs.declared.Goal.{Goal}
+use Rattle.criterion.specs.Goals.{Meets}
 use Rattle.table.specs.Rows.{rows}
 use Rattle.table.specs.Fit.{Sound}
 use Rattle.walks.specs.declared.Found.{Found}
 use Rattle.walks.specs.declared.Found.the-variants.{At, Nothing}
-use Rattle.walks.specs.Walks.{Starts, Least, LowestStart, ShownLeast, ShownIfTurns, CanShow, WalkOutcome, WalksAgree}
+use Rattle.walks.specs.Walks.{Starts, Least, LowestStart, ShownLeast, ShownIfAny, CanShow, WalkOutcome, WalksAgree}
 
 -- the answer for cells within their limits, from and to the least start
-module _ (c : List ℕ) (n : ℕ) (dist : List ℕ) where
-  pub lowest-sound : Sound c n → (r : Found) → Least (Starts (rows c n) dist) r → LowestStart c n dist r
+module _ (goal : Goal) (c : List ℕ) (n : ℕ) (dist : List ℕ) where
+  pub lowest-sound : Sound c n → (r : Found) → Least (Starts goal (rows c n) dist) r → LowestStart goal c n dist r
   lowest-sound z (At k) l = ((z, l .0), λ x h p. l .1 x h (p .1))
   lowest-sound z Nothing l = λ x p. l x (p .1)
 
-  pub lowest-within : Sound c n → (r : Found) → LowestStart c n dist r → Least (Starts (rows c n) dist) r
+  pub lowest-within : Sound c n → (r : Found) → LowestStart goal c n dist r → Least (Starts goal (rows c n) dist) r
   lowest-within z (At k) l = (l .0 .1, λ x h p. l .1 x h (z, p))
   lowest-within z Nothing l = λ x p. l x (z, p)
 
@@ -34,41 +36,41 @@ least-only P Nothing (At j) a b = absurd (a j (b .0))
 least-only P Nothing Nothing a b = refl
 
 -- two outcomes of `lowest` are equal
-pub lowest-only : (c : List ℕ) (n : ℕ) (dist : List ℕ) (r q : Found) → LowestStart c n dist r → LowestStart c n dist q → r ≡ q
-lowest-only c n dist = least-only (λ k. Sound c n × Starts (rows c n) dist k)
+pub lowest-only : (goal : Goal) (c : List ℕ) (n : ℕ) (dist : List ℕ) (r q : Found) → LowestStart goal c n dist r → LowestStart goal c n dist q → r ≡ q
+lowest-only goal c n dist = least-only (λ k. Sound c n × Starts goal (rows c n) dist k)
 
--- where the marks tell which states can be reached, a start is a walk that turns
-module _ (m : Machine) (dist : List ℕ) (meant : (s : ℕ) → (1 ≤ getD dist s 0) ↔ Reached (m .transitions) (m .initial) s) where
-  pub starts-law : (k : ℕ) → Starts (m .transitions) dist k ↔ WalkTurns m k
+-- where the marks tell which states can be reached, a start is a walk of what is asked
+module _ (goal : Goal) (m : Machine) (dist : List ℕ) (meant : (s : ℕ) → (1 ≤ getD dist s 0) ↔ Reached (m .transitions) (m .initial) s) where
+  pub starts-law : (k : ℕ) → Starts goal (m .transitions) dist k ↔ WalkFrom (Meets goal) m k
   starts-law k = (
     λ p. record {
       reached = meant (at (m .transitions) k .from) .0 (p .arrives .leaves);
       known = p .arrives .known;
       j = p .after .m;
-      turns = p .after .turns;
+      after = p .after .to;
     },
     λ t. record {
       arrives = record { known = t .known; to = refl; leaves = meant (at (m .transitions) k .from) .1 (t .reached) };
-      after = record { m = t .j; turns = t .turns };
+      after = record { m = t .j; to = t .after };
     },
   )
 
-  pub lowest-turns : (k : ℕ) → Least (Starts (m .transitions) dist) (At k) → WalkTurns m k × ((i : ℕ) → WalkTurns m i → k ≤ i)
-  lowest-turns k l = (starts-law k .0 (l .0), λ i t. dite (decLt i k) (λ h. absurd (l .1 i h (starts-law i .1 t))) (λ n. omega arith))
+  pub lowest-met : (k : ℕ) → Least (Starts goal (m .transitions) dist) (At k) → WalkFrom (Meets goal) m k × ((i : ℕ) → WalkFrom (Meets goal) m i → k ≤ i)
+  lowest-met k l = (starts-law k .0 (l .0), λ i t. dite (decLt i k) (λ h. absurd (l .1 i h (starts-law i .1 t))) (λ n. omega arith))
 
-  pub lowest-steady : Least (Starts (m .transitions) dist) Nothing → (i : ℕ) → WalkTurns m i → ⊥
-  lowest-steady l i t = l i (starts-law i .1 t)
+  pub lowest-unmet : Least (Starts goal (m .transitions) dist) Nothing → (i : ℕ) → WalkFrom (Meets goal) m i → ⊥
+  lowest-unmet l i t = l i (starts-law i .1 t)
 
-module _ {c : List ℕ} {n k p : ℕ} {old : List ℕ} where
-  pub walk-outcome : {out : List ℕ} {x : ℕ} → Sound c n → k < n → p + 239 ≤ length old → ShownIfTurns (rows c n) k p old out x → WalkOutcome c n k p old out x
+module _ (goal : Goal) {c : List ℕ} {n k p : ℕ} {old : List ℕ} where
+  pub walk-outcome : {out : List ℕ} {x : ℕ} → Sound c n → k < n → p + 239 ≤ length old → ShownIfAny goal (rows c n) k p old out x → WalkOutcome goal c n k p old out x
   walk-outcome z h r =
-      ⊎-elim (λ s. inl (record { sound = z; known = h; room = r; after = record { m = s .m; turns = s .walk .turns } }, s))
+      ⊎-elim (λ s. inl (record { sound = z; known = h; room = r; after = record { m = s .m; to = s .walk .to } }, s))
       (λ e. inr (λ q. e .0 (q .after), e .1, e .2))
 
   -- two outcomes show walks with one end, or write nothing
-  pub write-walk-agree : {a b : List ℕ} {x y : ℕ} → WalkOutcome c n k p old a x → WalkOutcome c n k p old b y → WalksAgree (rows c n) k p old a x b y
+  pub write-walk-agree : {a b : List ℕ} {x y : ℕ} → WalkOutcome goal c n k p old a x → WalkOutcome goal c n k p old b y → WalksAgree goal (rows c n) k p old a x b y
   write-walk-agree (inl s) (inl t) =
-      let e = least-only _ (At (s .1 .m)) (At (t .1 .m)) (s .1 .walk .turns, s .1 .least) (t .1 .walk .turns, t .1 .least) in
+      let e = least-only _ (At (s .1 .m)) (At (t .1 .m)) (s .1 .walk .to, s .1 .least) (t .1 .walk .to, t .1 .least) in
       inl (s .1, t .1, (cc))
   write-walk-agree (inl s) (inr f) = absurd (f .0 (s .0))
   write-walk-agree (inr e) (inl t) = absurd (e .0 (t .0))

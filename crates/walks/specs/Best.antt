@@ -8,7 +8,10 @@ use Rattle.model.specs.Table.{Transition, InRange, at}
 use Rattle.model.specs.Trace.{Trace, steps}
 use Rattle.model.specs.Span.{span, lateSum}
 use Rattle.model.specs.Shown.{lateGap}
-use Rattle.model.specs.Criterion.{Crosses, slack}
+use Rattle.model.specs.Criterion.{slack}
+use Rattle.criterion.specs.declared.Goal.{Goal}
+use Rattle.criterion.specs.declared.Goal.the-variants.{Turns, Overtakes}
+use Rattle.criterion.specs.Goals.{Meets}
 use Rattle.walks.specs.Walks.{Walk, Arrives, Among}
 
 -- the number in row a at state e
@@ -59,10 +62,10 @@ pub record First (best : List ℕ) (s : ℕ) : Type 0 where
   pub others : (e : ℕ) → e < 32 → (e ≡ s → ⊥) → getD best e 0 ≡ 0
 
 -- m ends a pair whose first step is k, by the number of the walks between them with which m is above
-pub record Closes (k m : Transition) (number : ℕ) : Type 0 where
+pub record Closes (goal : Goal) (k m : Transition) (number : ℕ) : Type 0 where
   pub late : ℕ
   pub some : number ≡ suc late
-  pub crosses : Crosses k m (m .u) (late + lateGap m)
+  pub meets : Meets goal k m (m .u) (late + lateGap m)
 
 -- rows enough for every end of a pair whose first step k arrives in s
 pub record Ready (ts : List Transition) (s k : ℕ) (best : List ℕ) : Type 0 where
@@ -101,11 +104,17 @@ pub record Explains (ts : List Transition) (best : List ℕ) (e a j : ℕ) : Typ
 abbrev pub Explained : List Transition → List ℕ → ℕ → ℕ → Type 0
 Explained ts best e a = Among (Explains ts best e a) (length ts)
 
--- a is the least row that has state e's number of row top
-pub record LeastRow (best : List ℕ) (e top a : ℕ) : Type 0 where
+-- the number with which a walk is shown, for the number x of the last row: a pair that turns needs the greatest late sum, one that overtakes
+-- only a walk, and the least sum of u has no cycle in it
+abbrev pub asked : Goal → ℕ → ℕ
+asked Turns x = x
+asked Overtakes x = 1
+
+-- a is the least row whose number at state e is at least `enough`
+pub record LeastRow (best : List ℕ) (e top enough a : ℕ) : Type 0 where
   pub within : a ≤ top
-  pub same : cell best a e ≡ cell best top e
-  pub least : (b : ℕ) → b < a → cell best b e ≡ cell best top e → ⊥
+  pub reaches : enough ≤ cell best a e
+  pub least : (b : ℕ) → b < a → enough ≤ cell best b e → ⊥
 
 -- row a has a number at e that no row before it has: its walks have the sum a of u
 pub record Stands (ts : List Transition) (s : ℕ) (best : List ℕ) (e a : ℕ) : Type 0 where
@@ -123,13 +132,13 @@ pub record Back (ts : List Transition) (s : ℕ) (best : List ℕ) (j sum : ℕ)
   pub whole : sum ≡ left + at ts j .u
   pub stands : Stands ts s best (at ts j .from) left
 
--- the sum from which end m is walked back, so that k, the walk and m turn
-pub record EndSum (ts : List Transition) (k m : ℕ) (best : List ℕ) (sum : ℕ) : Type 0 where
+-- the sum from which end m is walked back, so that k, the walk and m are what is asked
+pub record EndSum (goal : Goal) (ts : List Transition) (k m : ℕ) (best : List ℕ) (sum : ℕ) : Type 0 where
   pub back : Back ts (at ts k .to) best m sum
   pub few : sum ≤ 238
   pub late : ℕ
   pub some : cell best (back .left) (at ts m .from) ≡ suc late
-  pub crosses : Crosses (at ts k) (at ts m) sum (late + lateGap (at ts m))
+  pub meets : Meets goal (at ts k) (at ts m) sum (late + lateGap (at ts m))
 
 -- from place p on stands a walk from s that ends with j, n steps, whose sum of u is `sum` and whose late sum before j is the number's;
 -- the rest is as in old

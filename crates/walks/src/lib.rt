@@ -1,4 +1,5 @@
-// The walks of a table with their sums: which transition starts a turning pair, and the walk to its end.
+// The walks of a table with their sums: which transition starts a pair of what is asked, and the walk to its end.
+use criterion::Goal;
 use table::Cells;
 ghost use Rattle.walks.specs.Walks.{LowestStart, WalkOutcome};
 
@@ -13,14 +14,14 @@ pub enum Found {
     Nothing,
 }
 
-// The lowest transition that leaves a marked state and starts a turning pair. Nothing where the numbers are not within their limits.
-pub fn lowest(cells: &Cells, count: usize, dist: &[u16; 32]) -> Found
-    ensures { λ r. ⌜ LowestStart (now (cells .entry)) count (now (dist .entry)) r ⌝ }
+// The lowest transition that leaves a marked state and starts a pair. Nothing where the numbers are not within their limits.
+pub fn lowest(goal: Goal, cells: &Cells, count: usize, dist: &[u16; 32]) -> Found
+    ensures { λ r. ⌜ LowestStart goal (now (cells .entry)) count (now (dist .entry)) r ⌝ }
 {
     if 256 < count {
         return Found::Nothing;
     }
-    // An everyday strict table needs no search.
+    // An everyday table, where no transition overtakes the one right before it, needs no search.
     if !neighbours::any_overtaken(cells, count) {
         return Found::Nothing;
     }
@@ -28,13 +29,20 @@ pub fn lowest(cells: &Cells, count: usize, dist: &[u16; 32]) -> Found
         return Found::Nothing;
     }
     let mut best = [0u32; 7648];
-    search::lowest_start(cells, count, dist, &mut best)
+    search::lowest_start(goal, cells, count, dist, &mut best)
 }
 
-// Transition k, the walk after it and the least end with which it turns, written from place `from` on; answers the number of steps.
-// 0, and nothing written, where k starts no turning pair, the numbers are not within their limits or fewer than 239 places are left.
-pub fn write_walk(cells: &Cells, count: usize, k: usize, trace: &mut [u16], from: usize) -> usize
-    ensures { λ n. ⌜ WalkOutcome (now (cells .entry)) count k from (now (trace .entry)) (now (trace .exit)) n ⌝ }
+// Transition k, the walk after it and the least end of a pair, written from place `from` on; answers the number of steps.
+// 0, and nothing written, where k starts no pair, the numbers are not within their limits or fewer than 239 places are left.
+pub fn write_walk(
+    goal: Goal,
+    cells: &Cells,
+    count: usize,
+    k: usize,
+    trace: &mut [u16],
+    from: usize,
+) -> usize
+    ensures { λ n. ⌜ WalkOutcome goal (now (cells .entry)) count k from (now (trace .entry)) (now (trace .exit)) n ⌝ }
 {
     if count <= k {
         return 0;
@@ -49,5 +57,5 @@ pub fn write_walk(cells: &Cells, count: usize, k: usize, trace: &mut [u16], from
         return 0;
     }
     let mut best = [0u32; 7648];
-    walk::show(cells, count, k, &mut best, trace, from)
+    walk::show(goal, cells, count, k, &mut best, trace, from)
 }

@@ -1,29 +1,30 @@
-// The search for a turning pair over the table of sums.
+// The search for a pair of what is asked, over the table of sums.
 use crate::Found;
 use crate::sums::fill;
 use crate::sums::number;
 use crate::sums::row;
+use criterion::Goal;
 use table::Cells;
 use table::Row;
 ghost use mathlib.Core.Path.{_≡_};
 ghost use Prim.Native.Nat.{_+_, _<_, _≤_};
 ghost use lib.ListN.{length};
 ghost use Rattle.model.specs.Answers.{Tells};
-ghost use Rattle.model.specs.Criterion.{TurnsTo};
 ghost use Rattle.table.specs.Fit.{Sound};
 ghost use Rattle.table.specs.Rows.{rows, said};
-ghost use Rattle.walks.specs.Walks.{Arrives, StartsAt, Starts, Least, LeastBelow};
+ghost use Rattle.walks.specs.Walks.{Arrives, EndsIn, StartsAt, Starts, Least, LeastBelow};
 ghost use Rattle.walks.specs.Best.{Closes, ReadyFor, ReadyAt, Deeper, Deep};
 
-// Whether `last` ends a pair whose first step is `first`, by the number of the walks before it: the goal of the search, here alone.
-fn closes(first: Row, last: Row, number: u32) -> bool
+// Whether `last` ends a pair whose first step is `first`, by the number of the walks before it: what is asked is tested here alone.
+fn closes(goal: Goal, first: Row, last: Row, number: u32) -> bool
     requires { ⌜ number < 4278190080 ⌝ }
-    ensures { λ r. ⌜ Tells r (Closes (said first) (said last) number) ⌝ }
+    ensures { λ r. ⌜ Tells r (Closes goal (said first) (said last) number) ⌝ }
 {
     if number == 0 {
         return false;
     }
-    if !criterion::crosses(
+    if !criterion::meets(
+        goal,
         first,
         last,
         last.u as u32,
@@ -34,10 +35,10 @@ fn closes(first: Row, last: Row, number: u32) -> bool
     true
 }
 
-// Whether m ends a turning pair whose first step is k.
-fn ends_at(cells: &Cells, count: usize, best: &[u32], k: usize, m: usize) -> bool
+// Whether m ends a pair whose first step is k.
+fn ends_at(goal: Goal, cells: &Cells, count: usize, best: &[u32], k: usize, m: usize) -> bool
     requires { ⌜ Sound (now cells) count × (k < count) × (m < count) × ReadyFor (rows (now cells) count) k (now best) ⌝ }
-    ensures { λ r. ⌜ Tells r (TurnsTo (rows (now (cells .entry)) count) k m) ⌝ }
+    ensures { λ r. ⌜ Tells r (EndsIn goal (rows (now (cells .entry)) count) k m) ⌝ }
 {
     let first = row(cells, count, k);
     let last = row(cells, count, m);
@@ -46,17 +47,17 @@ fn ends_at(cells: &Cells, count: usize, best: &[u32], k: usize, m: usize) -> boo
         criterion::most_before(first, last),
         last.from as usize,
     );
-    closes(first, last, x)
+    closes(goal, first, last, x)
 }
 
-// The least transition that ends a turning pair whose first step is k.
-pub(crate) fn ends(cells: &Cells, count: usize, best: &[u32], k: usize) -> Found
+// The least transition that ends a pair whose first step is k.
+pub(crate) fn ends(goal: Goal, cells: &Cells, count: usize, best: &[u32], k: usize) -> Found
     requires { ⌜ Sound (now cells) count × (k < count) × ReadyFor (rows (now cells) count) k (now best) ⌝ }
-    ensures { λ r. ⌜ Least (TurnsTo (rows (now (cells .entry)) count) k) r ⌝ }
+    ensures { λ r. ⌜ Least (EndsIn goal (rows (now (cells .entry)) count) k) r ⌝ }
 {
     let mut m: usize = 0;
     while m < count {
-        if ends_at(cells, count, best, k, m) {
+        if ends_at(goal, cells, count, best, k, m) {
             return Found::At(m);
         }
         m += 1;
@@ -113,22 +114,31 @@ fn depth(cells: &Cells, count: usize, dist: &[u16; 32], s: usize, low: usize) ->
     top
 }
 
-// Whether transition k arrives in s and starts a turning pair.
-fn starts(cells: &Cells, count: usize, dist: &[u16; 32], best: &[u32], s: usize, k: usize) -> bool
+// Whether transition k arrives in s and starts a pair.
+fn starts(
+    goal: Goal,
+    cells: &Cells,
+    count: usize,
+    dist: &[u16; 32],
+    best: &[u32],
+    s: usize,
+    k: usize,
+) -> bool
     requires { ⌜ Sound (now cells) count × (k < count) × ReadyAt (rows (now cells) count) (now dist) s (k + 1) (now best) ⌝ }
-    ensures { λ r. ⌜ Tells r (StartsAt (rows (now (cells .entry)) count) (now (dist .entry)) s k) ⌝ }
+    ensures { λ r. ⌜ Tells r (StartsAt goal (rows (now (cells .entry)) count) (now (dist .entry)) s k) ⌝ }
 {
     if !arrives(cells, count, dist, s, k) {
         return false;
     }
-    match ends(cells, count, best, k) {
+    match ends(goal, cells, count, best, k) {
         Found::At(_) => true,
         Found::Nothing => false,
     }
 }
 
-// The least transition below low that arrives in s and starts a turning pair, or low.
+// The least transition below low that arrives in s and starts a pair, or low.
 fn first_start(
+    goal: Goal,
     cells: &Cells,
     count: usize,
     dist: &[u16; 32],
@@ -137,11 +147,11 @@ fn first_start(
     low: usize,
 ) -> usize
     requires { ⌜ Sound (now cells) count × (low ≤ count) × ReadyAt (rows (now cells) count) (now dist) s low (now best) ⌝ }
-    ensures { λ r. ⌜ LeastBelow (StartsAt (rows (now (cells .entry)) count) (now (dist .entry)) s) low r ⌝ }
+    ensures { λ r. ⌜ LeastBelow (StartsAt goal (rows (now (cells .entry)) count) (now (dist .entry)) s) low r ⌝ }
 {
     let mut k: usize = 0;
     while k < low {
-        if starts(cells, count, dist, best, s, k) {
+        if starts(goal, cells, count, dist, best, s, k) {
             return k;
         }
         k += 1;
@@ -151,6 +161,7 @@ fn first_start(
 
 // The same, with the sums from s made as far as they are looked at.
 fn lower(
+    goal: Goal,
     cells: &Cells,
     count: usize,
     dist: &[u16; 32],
@@ -159,22 +170,28 @@ fn lower(
     low: usize,
 ) -> usize
     requires { ⌜ Sound (now cells) count × (low ≤ count) × (length (now best) ≡ 7648) × (s < 32) ⌝ }
-    ensures { λ r. ⌜ LeastBelow (StartsAt (rows (now (cells .entry)) count) (now (dist .entry)) s) low r ⌝ }
+    ensures { λ r. ⌜ LeastBelow (StartsAt goal (rows (now (cells .entry)) count) (now (dist .entry)) s) low r ⌝ }
 {
     let top = depth(cells, count, dist, s, low);
     fill(cells, count, s, best, top);
-    first_start(cells, count, dist, best, s, low)
+    first_start(goal, cells, count, dist, best, s, low)
 }
 
-// The lowest transition that leaves a marked state and starts a turning pair.
-pub(crate) fn lowest_start(cells: &Cells, count: usize, dist: &[u16; 32], best: &mut [u32]) -> Found
+// The lowest transition that leaves a marked state and starts a pair.
+pub(crate) fn lowest_start(
+    goal: Goal,
+    cells: &Cells,
+    count: usize,
+    dist: &[u16; 32],
+    best: &mut [u32],
+) -> Found
     requires { ⌜ Sound (now cells) count × (length (now best) ≡ 7648) ⌝ }
-    ensures { λ r. ⌜ Least (Starts (rows (now (cells .entry)) count) (now (dist .entry))) r ⌝ }
+    ensures { λ r. ⌜ Least (Starts goal (rows (now (cells .entry)) count) (now (dist .entry))) r ⌝ }
 {
     let mut low = count;
     let mut s: usize = 0;
     while s < 32 {
-        low = lower(cells, count, dist, best, s, low);
+        low = lower(goal, cells, count, dist, best, s, low);
         s += 1;
     }
     if low < count {

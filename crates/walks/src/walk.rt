@@ -1,20 +1,20 @@
-// The walk between the two steps of a turning pair, walked back from its end.
+// The walk between the two steps of a pair, walked back from its end.
 use crate::Found;
 use crate::search::deeper;
 use crate::search::ends;
 use crate::sums::fill;
 use crate::sums::number;
 use crate::sums::row;
+use criterion::Goal;
 use table::Cells;
 ghost use mathlib.Core.Path.{_≡_};
 ghost use Prim.Native.Nat.{_+_, _<_, _≤_};
 ghost use lib.ListN.{length};
 ghost use Rattle.model.specs.Answers.{Tells};
-ghost use Rattle.model.specs.Criterion.{TurnsTo};
 ghost use Rattle.table.specs.Fit.{Sound};
 ghost use Rattle.table.specs.Rows.{rows};
-ghost use Rattle.walks.specs.Walks.{ShownWalk, ShownIfTurns};
-ghost use Rattle.walks.specs.Best.{ReadyFor, Explains, Explained, LeastRow, Back, EndSum, Went};
+ghost use Rattle.walks.specs.Walks.{EndsIn, ShownWalk, ShownIfAny};
+ghost use Rattle.walks.specs.Best.{cell, asked, ReadyFor, Explains, Explained, LeastRow, Back, EndSum, Went};
 
 fn low(x: usize) -> u16
     requires { ⌜ x < 65536 ⌝ }
@@ -23,15 +23,24 @@ fn low(x: usize) -> u16
     x as u16
 }
 
-// The least row that has state e's number of row top.
-fn least_row(best: &[u32], e: usize, top: usize) -> usize
-    requires { ⌜ (length (now best) ≡ 7648) × (top ≤ 238) × (e < 32) ⌝ }
-    ensures { λ a. ⌜ LeastRow (now (best .entry)) e top a ⌝ }
+// The number with which a walk is shown: the greatest late sum where a pair is to turn, any where it is to overtake.
+fn enough_for(goal: Goal, x: u32) -> u32
+    ensures { λ r. ⌜ r ≡ asked goal x ⌝ }
 {
-    let x = number(best, top, e);
+    match goal {
+        Goal::Turns => x,
+        Goal::Overtakes => 1,
+    }
+}
+
+// The least row whose number at state e is at least `enough`.
+fn least_row(best: &[u32], e: usize, top: usize, enough: u32) -> usize
+    requires { ⌜ (length (now best) ≡ 7648) × (top ≤ 238) × (e < 32) × (enough ≤ cell (now best) top e) ⌝ }
+    ensures { λ a. ⌜ LeastRow (now (best .entry)) e top enough a ⌝ }
+{
     let mut a: usize = 0;
     while a < top {
-        if number(best, a, e) == x {
+        if enough <= number(best, a, e) {
             return a;
         }
         a += 1;
@@ -107,18 +116,21 @@ fn walk_back(
 }
 
 // The whole sum of lower bounds of the walk from k to the end m that is walked back.
-fn end_sum(cells: &Cells, count: usize, best: &[u32], k: usize, m: usize) -> usize
-    requires { ⌜ Sound (now cells) count × (k < count) × ReadyFor (rows (now cells) count) k (now best) × TurnsTo (rows (now cells) count) k m ⌝ }
-    ensures { λ sum. ⌜ EndSum (rows (now (cells .entry)) count) k m (now (best .entry)) sum ⌝ }
+fn end_sum(goal: Goal, cells: &Cells, count: usize, best: &[u32], k: usize, m: usize) -> usize
+    requires { ⌜ Sound (now cells) count × (k < count) × ReadyFor (rows (now cells) count) k (now best) × EndsIn goal (rows (now cells) count) k m ⌝ }
+    ensures { λ sum. ⌜ EndSum goal (rows (now (cells .entry)) count) k m (now (best .entry)) sum ⌝ }
 {
     let first = row(cells, count, k);
     let last = row(cells, count, m);
     let top = criterion::most_before(first, last);
-    least_row(best, last.from as usize, top) + last.u as usize
+    let e = last.from as usize;
+    let enough = enough_for(goal, number(best, top, e));
+    least_row(best, e, top, enough) + last.u as usize
 }
 
 // Step k, then the walk back from its end m, written from place `from` on.
 fn write_pair(
+    goal: Goal,
     cells: &Cells,
     count: usize,
     best: &[u32],
@@ -127,12 +139,12 @@ fn write_pair(
     trace: &mut [u16],
     from: usize,
 ) -> usize
-    requires { ⌜ Sound (now cells) count × (k < count) × ReadyFor (rows (now cells) count) k (now best) × TurnsTo (rows (now cells) count) k m
+    requires { ⌜ Sound (now cells) count × (k < count) × ReadyFor (rows (now cells) count) k (now best) × EndsIn goal (rows (now cells) count) k m
         × (from + 239 ≤ length (now trace)) ⌝ }
-    ensures { λ n. ⌜ ShownWalk (rows (now (cells .entry)) count) k m from (now (trace .entry)) (now (trace .exit)) n ⌝ }
+    ensures { λ n. ⌜ ShownWalk goal (rows (now (cells .entry)) count) k m from (now (trace .entry)) (now (trace .exit)) n ⌝ }
 {
     let s = row(cells, count, k).to as usize;
-    let sum = end_sum(cells, count, best, k, m);
+    let sum = end_sum(goal, cells, count, best, k, m);
     trace[from] = low(k);
     walk_back(cells, count, s, best, m, sum, trace, from + 1) + 1
 }
@@ -147,8 +159,9 @@ fn fill_for(cells: &Cells, count: usize, k: usize, best: &mut [u32])
     fill(cells, count, s, best, top);
 }
 
-// A turning pair whose first step is k, with the least end, written from place `from` on; 0 where there is none.
+// A pair whose first step is k, with the least end, written from place `from` on; 0 where there is none.
 pub(crate) fn show(
+    goal: Goal,
     cells: &Cells,
     count: usize,
     k: usize,
@@ -157,11 +170,11 @@ pub(crate) fn show(
     from: usize,
 ) -> usize
     requires { ⌜ Sound (now cells) count × (k < count) × (length (now best) ≡ 7648) × (from + 239 ≤ length (now trace)) ⌝ }
-    ensures { λ n. ⌜ ShownIfTurns (rows (now (cells .entry)) count) k from (now (trace .entry)) (now (trace .exit)) n ⌝ }
+    ensures { λ n. ⌜ ShownIfAny goal (rows (now (cells .entry)) count) k from (now (trace .entry)) (now (trace .exit)) n ⌝ }
 {
     fill_for(cells, count, k, best);
-    match ends(cells, count, best, k) {
-        Found::At(m) => write_pair(cells, count, best, k, m, trace, from),
+    match ends(goal, cells, count, best, k) {
+        Found::At(m) => write_pair(goal, cells, count, best, k, m, trace, from),
         Found::Nothing => 0,
     }
 }

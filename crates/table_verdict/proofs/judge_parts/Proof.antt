@@ -1,58 +1,48 @@
--- The check, the room, the decision. Assumes nothing.
+-- The tests, then the decision. What is not named follows from the arithmetic around it.
 use borrow.Author.Needs.{needs}
 use native.Mathlib.Omega.{arith}
-use Rattle.table.specs.Rows.{tableIn}
-use Rattle.table.proofs.TestLaws.{sound-valid, valid-count}
+use Rattle.table.specs.Rows.{machineOf, tableIn}
+use Rattle.table.specs.Tests.{answers}
+use Rattle.table.proofs.TestLaws.{valid-count, tested-passes}
 use Rattle.table.proofs.FitLaws.{valid-sound}
-use Rattle.table_verdict.proofs.DecideLaws.{table-refused, table-short, table-decided}
+use Rattle.table.proofs.ShowingLaws.{shown-refused}
+use Rattle.witness.proofs.WitnessLaws.{admits}
 use Rattle.table_verdict.proofs.judge_parts.Statement.{statement}
 use Rattle.table_verdict.proofs.judge_parts.Tie as tie
 
-check-parts-requires : tie.Need-check-parts-requires
-check-parts-requires c κs = search needs
-
-enum-known-checked : tie.Need-enum-known-checked
-enum-known-checked c = search needs
-
 returns : tie.Need-returns
-returns c = table-refused (tableIn (c .before .before .before .before .before .before .args .states) (c .before .before .before .before .before .before .args .initial) (c .before .before .before .before .before .before .args .count) (c .before .before .before .before .before .before .args .cells .now)) (c .before .before .before .before .before .before .args .trace .now) (c .before .before .before .before .before .before .args .stamps .now) (c .before .checked .given .1) (c .before .before .before .check-parts .ensures)
-
-enum-told : tie.Need-enum-told
-enum-told c = search needs
-
-returns-2 : tie.Need-returns-2
-returns-2 c = table-short (tableIn (c .before .before .before .before .before .before .args .states) (c .before .before .before .before .before .before .args .initial) (c .before .before .before .before .before .before .args .count) (c .before .before .before .before .before .before .args .cells .now)) (c .before .before .before .before .before .before .args .trace .now) (c .before .before .before .before .before .before .args .stamps .now) (sound-valid _ (c .before .enum-told .given .1) (c .before .before .before .check-parts .ensures)) (λ h. omega arith)
-
-returns-3 : tie.Need-returns-3
-returns-3 c = table-short (tableIn (c .before .before .before .before .before .before .before .args .states) (c .before .before .before .before .before .before .before .args .initial) (c .before .before .before .before .before .before .before .args .count) (c .before .before .before .before .before .before .before .args .cells .now)) (c .before .before .before .before .before .before .before .args .trace .now) (c .before .before .before .before .before .before .before .args .stamps .now) (sound-valid _ (c .before .before .enum-told .given .1) (c .before .before .before .before .check-parts .ensures)) (λ h. omega arith)
+returns c =
+    let k = c .before .before .before in
+    let a = k .before .before .before .args in
+    shown-refused _ (a .trace .now) (a .stamps .now) (c .before .checked .given .1) (k .admitted .ensures)
 
 decide-requires : tie.Need-decide-requires
 decide-requires c κs =
-    let a = c .before .before .before .before .before .before .before .before .before .args in
+    let e = c .before .before in
+    let k = e .before .before in
+    let a = k .before .before .before .args in
     let t = tableIn (a .states) (a .initial) (a .count) (a .cells .now) in
-    let valid = sound-valid _ (c .before .before .before .before .enum-told .given .1) (c .before .before .before .before .before .before .check-parts .ensures) in
-    (valid-sound t (valid-count t valid) valid, omega (arith, valid .starts, valid .most), omega arith, omega arith)
+    let o = admits (machineOf t) _ _ _ (e .enum-told .given .1) (k .admitted .ensures) in
+    (valid-sound t (valid-count t (o .0)) (o .0), omega (arith, o .0 .starts, o .0 .most), omega (arith, o .1), omega (arith, o .1))
 
-same-length : tie.Need-same-length
-same-length c = search needs
-
-same-length-2 : tie.Need-same-length-2
-same-length-2 c = search needs
-
-returns-4 : tie.Need-returns-4
-returns-4 c = table-decided (tableIn (c .before .before .before .before .before .before .before .before .before .before .before .before .before .before .args .states) (c .before .before .before .before .before .before .before .before .before .before .before .before .before .before .args .initial) (c .before .before .before .before .before .before .before .before .before .before .before .before .before .before .args .count) (c .before .before .before .before .before .before .before .before .before .before .before .before .before .before .args .cells .now)) (c .before .before .before .before .before .before .before .before .before .before .before .before .before .before .args .trace .now) (c .before .before .before .before .before .before .before .before .before .before .before .before .before .before .args .stamps .now) (sound-valid _ (c .before .before .before .before .before .before .before .before .before .enum-told .given .1) (c .before .before .before .before .before .before .before .before .before .before .before .check-parts .ensures)) (omega arith) (omega arith) (c .before .before .before .before .decide .ensures)
+returns-2 : tie.Need-returns-2
+returns-2 c =
+    let e = c .before .before .before .before .before .before .before in
+    let k = e .before .before in
+    let a = k .before .before .before .args in
+    let m = machineOf (tableIn (a .states) (a .initial) (a .count) (a .cells .now)) in
+    let o = admits m _ _ _ (e .enum-told .given .1) (k .admitted .ensures) in
+    answers (tested-passes _ (omega arith) (e .enum-told .given .1) (k .admitted .ensures)) (c .before .before .before .before .decide .ensures .decided _ (o .0))
 
 pub judge-parts-spec : {M : Type 1} → statement M
 judge-parts-spec =
     tie.close
     (tie.spec
-    check-parts-requires
-    enum-known-checked
+    (λ c κs. search needs)
+    (λ c. search needs)
     returns
-    enum-told
-    returns-2
-    returns-3
+    (λ c. search needs)
     decide-requires
-    same-length
-    same-length-2
-    returns-4)
+    (λ c. search needs)
+    (λ c. search needs)
+    returns-2)

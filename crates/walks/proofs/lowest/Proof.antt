@@ -17,7 +17,7 @@ any-overtaken-requires c κs = search needs
 returns-2 : tie.Need-returns-2
 returns-2 c =
     let r = c .before .any-overtaken in
-    λ x p. none-starts _ (untold (r .result) (r .ensures) (not-true _ (c .if2 .taken))) x (p .1)
+    λ x p. none-starts _ _ (untold (r .result) (r .ensures) (not-true _ (c .if2 .taken))) x (p .1)
 
 in-limits-requires : tie.Need-in-limits-requires
 in-limits-requires c κs = search needs
@@ -39,7 +39,7 @@ returns-4 : tie.Need-returns-4
 returns-4 c =
     let r = c .before .before .before .before .in-limits in
     let l = c .before .lowest-start in
-    lowest-sound _ _ _ (told (r .result) (r .ensures) (not-false _ (c .before .before .before .if3 .left))) (l .result) (l .ensures)
+    lowest-sound _ _ _ _ (told (r .result) (r .ensures) (not-false _ (c .before .before .before .if3 .left))) (l .result) (l .ensures)
 
 pub lowest-spec : {M : Type 1} → statement M
 lowest-spec =

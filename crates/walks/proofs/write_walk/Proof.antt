@@ -43,7 +43,7 @@ returns-5 : tie.Need-returns-5
 returns-5 c =
     let r = c .before .before .before .before .before .before .before .before .before .in-limits in
     let z = told (r .result) (r .ensures) (not-false _ (c .before .before .before .before .before .before .before .before .if2 .left)) in
-    walk-outcome z (omega arith) (omega arith) (c .before .before .before .show .ensures)
+    walk-outcome _ z (omega arith) (omega arith) (c .before .before .before .show .ensures)
 
 pub write-walk-spec : {M : Type 1} → statement M
 write-walk-spec =

@@ -3,7 +3,7 @@ use borrow.Author.Needs.{needs}
 use borrow.Author.Tests.{not-true, not-false}
 use Rattle.split_pair.specs.declared.Pair.the-variants.{At, Nothing}
 use Rattle.split_pair.proofs.SplitLaws.{split-found}
-use Rattle.table_verdict.proofs.DecideLaws.{turn-room, pair-room, split-decided, turn-decided}
+use Rattle.table_verdict.proofs.DecideLaws.{pair-room, split-decided, turn-decided}
 use Rattle.table_verdict.proofs.decide.decide.Statement.{statement}
 use Rattle.table_verdict.proofs.decide.decide.Tie as tie
 
@@ -52,11 +52,7 @@ enum-told : tie.Need-enum-told
 enum-told c = search needs
 
 judge-turning-requires : tie.Need-judge-turning-requires
-judge-turning-requires c κs =
-    let p = c .before .before .before .before .before .before .before .before .before .before .before .before .before .before .pre in
-    let told = rw (not-false (c .before .before .before .before .before .before .before .before .before .reach .result) (c .before .before .before .before .before .before .before .before .if1 .left)) at (c .before .before .before .before .before .before .before .before .before .reach .ensures) in
-    let reach = told .1 in
-    (p .0, turn-room (p .0) reach (p .2) (p .3))
+judge-turning-requires c κs = search needs
 
 same-length-3 : tie.Need-same-length-3
 same-length-3 c = search needs
@@ -73,7 +69,7 @@ returns-3 c =
     record {
       decided = λ states v. turn-decided (p .0) reach states v (a .trace .now) (a .stamps .now)
           (split-found _ _ _ Nothing (rw (c .before .before .before .before .before .before .before .before .before .enum-told .given .1) at (c .before .before .before .before .before .before .before .before .before .before .before .first-split .ensures)) (p .0 .few) states (a .initial) (reach .tells))
-          (c .before .before .before .before .judge-turning .ensures);
+          (p .2) (p .3) (c .before .before .before .before .judge-turning .ensures);
     }
 
 pub decide-spec : {M : Type 1} → statement M

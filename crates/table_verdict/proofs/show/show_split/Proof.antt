@@ -5,7 +5,7 @@ use mathlib.Core.Path.{ap}
 use Prim.Native.Nat.{ℕ, _+_}
 use lib.ListN.{length-take}
 use Rattle.table_verdict.specs.declared.OnTable.the-variants.{Split}
-use Rattle.table_verdict.proofs.ShownLaws.{bounds, way-number, split-traced, split-stamped}
+use Rattle.table_verdict.proofs.ShownLaws.{bounds, split-number, split-traced, split-stamped}
 use Rattle.table_verdict.proofs.show.show_split.Statement.{statement}
 use Rattle.table_verdict.proofs.show.show_split.Tie as tie
 
@@ -49,7 +49,7 @@ returns : tie.Need-returns
 returns c =
     let a = c .before .before .before .before .before .before .before .before .before .before .before .before .before .args in
     record {
-      answer = ap (λ (n : ℕ). Split (a .i) (a .j) (n + 1)) (way-number (c .before .before .before .before .before .before .before .before .before .before .before .before .before .pre .0) (c .before .before .before .before .before .before .before .before .before .before .before .before .before .pre .1 .traces) (c .before .before .before .before .before .before .before .before .before .before .row-of .result) (c .before .before .before .before .before .before .before .before .before .before .row-of .ensures) (c .before .before .before .before .before .before .before .write-way .ensures));
+      answer = ap (λ (n : ℕ). Split (a .i) (a .j) (n + 1)) (split-number (c .before .before .before .before .before .before .before .before .before .before .before .before .before .pre .0) (c .before .before .before .before .before .before .before .before .before .before .before .before .before .pre .1 .traces) (c .before .before .before .before .before .before .before .before .before .before .row-of .result) (c .before .before .before .before .before .before .before .before .before .before .row-of .ensures) (c .before .before .before .before .before .before .before .write-way .ensures));
       traced = split-traced (c .before .before .before .before .before .before .before .before .before .before .before .before .before .pre .0) (c .before .before .before .before .before .before .before .before .before .before .before .before .before .pre .1 .traces) (c .before .before .before .before .before .before .before .before .before .before .row-of .result) (c .before .before .before .before .before .before .before .before .before .before .row-of .ensures) (c .before .before .before .before .before .before .before .write-way .ensures);
       stamped = split-stamped (c .before .before .before .before .before .before .before .before .before .before .before .before .before .pre .0) (c .before .before .before .before .before .before .before .before .before .before .before .before .before .pre .1 .traces) (c .before .before .before .before .before .before .before .before .before .before .row-of .result) (c .before .before .before .before .before .before .before .before .before .before .row-of .ensures) (c .before .before .before .before .before .before .before .write-way .ensures)
           (c .before .before .before .before .before .before .before .before .before .before .before .before .before .pre .2) (c .before .before .before .before .before .before .before .before .before .row-of2 .result) (c .before .before .before .before .before .before .before .before .before .row-of2 .ensures) _ _ (c .before .before .before .before .before .before .before .before .before .before .before .before .before .pre .1 .stamps-places) (c .before .before .write-split-word .ensures);

@@ -2,19 +2,19 @@ use borrow.Author.Needs.{needs}
 use borrow.Author.Count.{below-more}
 use native.Mathlib.Omega.{arith}
 use Prim.Native.Nat.{ℕ, _≤_, _<_, _-_}
-use Rattle.model.specs.Criterion.{TurnsTo}
+use Rattle.walks.specs.Walks.{EndsIn}
 use Rattle.model.proofs.AnswerLaws.{told, untold}
 use Rattle.table.specs.Rows.{rows}
 use Rattle.table.proofs.RowLaws.{length-rows}
-use Rattle.walks.proofs.EndLaws.{turns-known, least-none}
+use Rattle.walks.proofs.EndLaws.{end-known, least-none}
 use Rattle.walks.proofs.search.ends.Statement.{statement}
 use Rattle.walks.proofs.search.ends.Tie as tie
 
 abbrev Inv-loop : tie.InvT-loop
-Inv-loop cells count best k m₀ m = (m ≤ count) × ((x : ℕ) → x < m → TurnsTo (rows cells count) k x → ⊥)
+Inv-loop goal cells count best k m₀ m = (m ≤ count) × ((x : ℕ) → x < m → EndsIn goal (rows cells count) k x → ⊥)
 
 abbrev μ-loop : tie.MeasureT-loop
-μ-loop cells count best k m₀ m = count - m
+μ-loop goal cells count best k m₀ m = count - m
 
 loop-holds : tie.Need-loop-holds Inv-loop μ-loop
 loop-holds c = (omega arith, λ x h. absurd (omega arith))
@@ -39,7 +39,7 @@ loop-again c =
 returns-2 : tie.Need-returns-2 Inv-loop μ-loop
 returns-2 c =
     let a = c .before .before .before .args in
-    least-none (λ x t. turns-known t) (omega (arith, length-rows (a .cells .now) (a .count))) (c .before .loop .inv .1)
+    least-none (λ x t. end-known (a .goal) t) (omega (arith, length-rows (a .cells .now) (a .count))) (c .before .loop .inv .1)
 
 pub ends-spec : {M : Type 1} → statement M
 ends-spec =

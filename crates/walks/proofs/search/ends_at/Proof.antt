@@ -19,21 +19,21 @@ cast-number c = search needs
 number-requires : tie.Need-number-requires
 number-requires c κs =
     let s = c .before .before .before .before .before in
-    number-there (s .args .k) (s .pre .3) (s .args .m) (c .before .before .before .row .ensures) (c .before .before .row2 .ensures) (c .before .most-before .ensures)
+    number-there (s .args .goal) (s .args .k) (s .pre .3) (s .args .m) (c .before .before .before .row .ensures) (c .before .before .row2 .ensures) (c .before .most-before .ensures)
 
 closes-requires : tie.Need-closes-requires
 closes-requires c κs =
     let s = c .before .before .before .before .before .before in
     let f = c .before .before .before .before .row .ensures in
     let l = c .before .before .before .row2 .ensures in
-    number-small (s .args .k) (s .pre .3) (s .args .m) f l (c .before .before .most-before .ensures) (c .number .ensures)
+    number-small (s .args .goal) (s .args .k) (s .pre .3) (s .args .m) f l (c .before .before .most-before .ensures) (c .number .ensures)
 
 returns : tie.Need-returns
 returns c =
     let s = c .before .before .before .before .before .before .before in
     let f = c .before .before .before .before .before .row .ensures in
     let l = c .before .before .before .before .row2 .ensures in
-    let e = end-law (s .args .k) (s .pre .3) (s .args .m) f l (c .before .before .before .most-before .ensures) (c .before .number .ensures) in
+    let e = end-law (s .args .goal) (s .args .k) (s .pre .3) (s .args .m) f l (c .before .before .before .most-before .ensures) (c .before .number .ensures) in
     tells-same (c .closes .result) e (c .closes .ensures)
 
 pub ends-at-spec : {M : Type 1} → statement M

@@ -10,10 +10,10 @@ use Rattle.walks.proofs.search.first_start.Statement.{statement}
 use Rattle.walks.proofs.search.first_start.Tie as tie
 
 abbrev Inv-loop : tie.InvT-loop
-Inv-loop cells count dist best s low k₀ k = (k ≤ low) × ((x : ℕ) → x < k → StartsAt (rows cells count) dist s x → ⊥)
+Inv-loop goal cells count dist best s low k₀ k = (k ≤ low) × ((x : ℕ) → x < k → StartsAt goal (rows cells count) dist s x → ⊥)
 
 abbrev μ-loop : tie.MeasureT-loop
-μ-loop cells count dist best s low k₀ k = low - k
+μ-loop goal cells count dist best s low k₀ k = low - k
 
 loop-holds : tie.Need-loop-holds Inv-loop μ-loop
 loop-holds c = (omega arith, λ x h. absurd (omega arith))

@@ -11,10 +11,10 @@ use Rattle.walks.proofs.search.lowest_start.Statement.{statement}
 use Rattle.walks.proofs.search.lowest_start.Tie as tie
 
 abbrev Inv-loop : tie.InvT-loop
-Inv-loop cells count dist best₀ low₀ s₀ best low s = (s ≤ 32) × (length best ≡ length best₀) × LeastBelow (StartsUnder (rows cells count) dist s) count low
+Inv-loop goal cells count dist best₀ low₀ s₀ best low s = (s ≤ 32) × (length best ≡ length best₀) × LeastBelow (StartsUnder goal (rows cells count) dist s) count low
 
 abbrev μ-loop : tie.MeasureT-loop
-μ-loop cells count dist best₀ low₀ s₀ best low s = 32 - s
+μ-loop goal cells count dist best₀ low₀ s₀ best low s = 32 - s
 
 loop-holds : tie.Need-loop-holds Inv-loop μ-loop
 loop-holds c = (omega arith, refl, lowest-none)
@@ -35,7 +35,7 @@ loop-again : tie.Need-loop-again Inv-loop μ-loop
 loop-again c =
     let l = c .before .before .before .before .before .loop .inv in
     let r = c .before .before .lower in
-    (omega arith, omega (arith, r .kept .1 .1 .1 .0, l .1), lowest-more (l .2) (r .ensures))
+    (omega arith, omega (arith, r .kept .1 .1 .1 .1 .0, l .1), lowest-more (l .2) (r .ensures))
 
 same-length : tie.Need-same-length Inv-loop μ-loop
 same-length c = search needs

@@ -2,7 +2,7 @@ use borrow.Author.Needs.{needs}
 use borrow.Author.Tests.{not-true, not-false}
 use Rattle.model.proofs.AnswerLaws.{told, untold}
 use Rattle.table.specs.Rows.{rows}
-use Rattle.model.specs.Criterion.{TurnsTo}
+use Rattle.walks.specs.Walks.{EndsIn}
 use Rattle.walks.proofs.EndLaws.{ready-for, is-start, least-not}
 use Rattle.walks.proofs.search.starts.Statement.{statement}
 use Rattle.walks.proofs.search.starts.Tie as tie
@@ -31,13 +31,13 @@ returns-2 : tie.Need-returns-2
 returns-2 c =
     let r = c .before .before .before .before .arrives in
     let e = c .before .before .ends in
-    is-start (told (r .result) (r .ensures) (not-false _ (c .before .before .before .if1 .left))) (e .result) (e .ensures) (c .before .match .keys1)
+    is-start (told (r .result) (r .ensures) (not-false _ (c .before .before .before .if1 .left))) _ (e .result) (e .ensures) (c .before .match .keys1)
 
 returns-3 : tie.Need-returns-3
 returns-3 c =
     let a = c .before .before .before .before .before .before .args in
     let e = c .before .before .ends in
-    λ q. least-not (TurnsTo (rows (a .cells .now) (a .count)) (a .k)) (e .result) (e .ensures) (c .before .match .keys2) (q .after .m) (q .after .turns)
+    λ q. least-not (EndsIn (a .goal) (rows (a .cells .now) (a .count)) (a .k)) (e .result) (e .ensures) (c .before .match .keys2) (q .after .m) (q .after .to)
 
 pub starts-spec : {M : Type 1} → statement M
 starts-spec =

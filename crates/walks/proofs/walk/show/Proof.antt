@@ -1,7 +1,7 @@
 use borrow.Author.Needs.{needs}
 use mathlib.Core.Path.{refl}
 use mathlib.Core.Logic.{inl, inr}
-use Rattle.model.specs.Criterion.{TurnsTo}
+use Rattle.walks.specs.Walks.{EndsIn}
 use Rattle.table.specs.Rows.{rows}
 use Rattle.walks.proofs.EndLaws.{least-not}
 use Rattle.walks.proofs.walk.show.Statement.{statement}
@@ -44,8 +44,8 @@ returns-2 : tie.Need-returns-2
 returns-2 c =
     let a = c .before .before .before .before .before .before .before .before .before .before .args in
     let e = c .before .before .ends in
-    let n = least-not (TurnsTo (rows (a .cells .now) (a .count)) (a .k)) (e .result) (e .ensures) (c .before .match .keys2) in
-    inr (λ t. n (t .m) (t .turns), refl, refl)
+    let n = least-not (EndsIn (a .goal) (rows (a .cells .now) (a .count)) (a .k)) (e .result) (e .ensures) (c .before .match .keys2) in
+    inr (λ t. n (t .m) (t .to), refl, refl)
 
 pub show-spec : {M : Type 1} → statement M
 show-spec =

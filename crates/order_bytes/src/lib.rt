@@ -1,0 +1,31 @@
+// Whether a table keeps request order, in bytes: the table as a file, transition numbers of two bytes, stamps of four.
+use table::Checked;
+use table_order::OnOrder;
+ghost use Rattle.table_order.specs.OnOrder.{orderFields};
+ghost use Rattle.order_bytes.specs.Orders.{OrderBytesOutcome};
+
+mod orders;
+
+// The answer on a table file.
+pub fn order_table_bytes(file: &[u8], trace: &mut [u8], stamps: &mut [u8]) -> OnOrder
+    ensures { λ r. ⌜ OrderBytesOutcome (now (file .entry)) (now (trace .entry)) (now (stamps .entry)) (orderFields r)
+        (now (trace .exit)) (now (stamps .exit)) ⌝ }
+{
+    let a = table::read_table(file);
+    let read = a.answer;
+    if let Checked::Refused(r) = read {
+        return OnOrder::Refused(r);
+    }
+    let mut steps = [0u16; 270];
+    let mut marks = [0u32; 270];
+    orders::order_on(
+        a.table.states,
+        a.table.initial,
+        a.table.count,
+        &a.table.cells,
+        trace,
+        stamps,
+        &mut steps,
+        &mut marks,
+    )
+}

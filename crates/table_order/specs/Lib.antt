@@ -1,0 +1,3 @@
+pub mod OnOrder
+pub mod Agree
+pub mod Decided
