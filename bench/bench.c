@@ -316,6 +316,16 @@ static void longest_table(struct work *w)
     end(&m);
 }
 
+/* A ring of 32 states whose first step is overtaken by the last alone: the longest walk of least u. */
+static void ring_table(struct work *w)
+{
+    struct maker m = begin(w, 32);
+    for (unsigned s = 0; s < 31; s++)
+        add(&m, s, s + 1, 1, 2, 40 - s);
+    add(&m, 31, 0, 1, 2, 8);
+    end(&m);
+}
+
 /* A dozen loops in one state. */
 static void loops_table(struct work *w, unsigned most, unsigned fall)
 {
@@ -387,6 +397,7 @@ static void make_works(void)
     end(&m);
     longest_table(new_work("judge: longest witness", JUDGE, 0, SANDGUSSET_TURNING));
     longest_table(new_work("order: longest witness", ORDER, 0, SANDGUSSET_OVERTAKEN));
+    ring_table(new_work("order: longest walk", ORDER, 0, SANDGUSSET_OVERTAKEN));
     loops_table(w = new_work("judge_trace: turning", JUDGE_TRACE, 0, SANDGUSSET_TURNING), 240, 21);
     long_trace(w, 12);
     full_table(w = new_work("replay: 256 transitions, refused", REPLAY, 0, SANDGUSSET_BAD_TRACE), 256, 240, 0,
