@@ -79,6 +79,7 @@ module _ (c trace : List ℕ) (start : ℕ) (stamps : List ℕ) where
   all-passed k h = record {
     inside = λ e. gaps-law (gapsFrom start stamps) (named c trace) .1 (λ j l. k .done j (omega (arith, length-named c trace)));
     outside = λ e. absurd (omega arith);
+    most = omega arith;
   }
 
   module _ (e : length stamps ≡ length trace) {before i : ℕ} (k : Passed (named c trace) start stamps before i) (h : i < length trace) where
@@ -99,4 +100,5 @@ module _ (c trace : List ℕ) (start : ℕ) (stamps : List ℕ) where
     stopped n = record {
       inside = λ z. absurd (omega arith);
       outside = λ z. rw (add-one i) (gaps-fail (gapsFrom start stamps) (named c trace) i (omega (arith, length-named c trace)) (k .done) n);
+      most = omega (arith, length-named c trace);
     }

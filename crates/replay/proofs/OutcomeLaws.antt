@@ -59,13 +59,19 @@ module _ {tests : List Test} {tr : List Transition} {w : Word} {order due : List
       x y
 
 module _ (m : Machine) (trace : List ℕ) (start : ℕ) (stamps o₀ d₀ : List ℕ) where
+  pub fields-only : {f g : Fields} (o d o' d' : List ℕ) → ReplayOutcome m trace start stamps o₀ d₀ f o d
+      → ReplayOutcome m trace start stamps o₀ d₀ g o' d' → (f ≡ g) × (o ≡ o') × (d ≡ d')
+  fields-only o d o' d' a b =
+      let x = play-only {R = (o ≡ o') × (d ≡ d')} (λ p q. (p .0 ∙ sym (q .0), p .1 ∙ sym (q .1)))
+      (λ l k p q p' q'. (p ∙ sym p', q ∙ sym q')) a b in
+      (x .0, x .1 .0, x .1 .1)
+
   -- two outcomes that the contract allows for one input are equal, answer and memory
   pub outcome-only : (r s : Replayed) (o d o' d' : List ℕ) → ReplayOutcome m trace start stamps o₀ d₀ (replayedFields r) o d
       → ReplayOutcome m trace start stamps o₀ d₀ (replayedFields s) o' d' → (r ≡ s) × (o ≡ o') × (d ≡ d')
   outcome-only r s o d o' d' a b =
-      let x = play-only {R = (o ≡ o') × (d ≡ d')} (λ p q. (p .0 ∙ sym (q .0), p .1 ∙ sym (q .1)))
-      (λ l k p q p' q'. (p ∙ sym p', q ∙ sym q')) a b in
-      (replayed-only r s (x .0), x .1 .0, x .1 .1)
+      let x = fields-only o d o' d' a b in
+      (replayed-only r s (x .0), x .1, x .2)
 
 -- two table values of one machine are replayed alike
 pub same-replay : (t u : Table) (trace : List ℕ) (start : ℕ) (stamps o₀ d₀ : List ℕ) → machineOf t ≡ machineOf u → (r s : Replayed) (o d o' d' : List ℕ)

@@ -9,7 +9,8 @@ use Rattle.model.specs.Answers.{Fields}
 use Rattle.model.specs.Lists.{All}
 use Rattle.model.specs.Table.{Transition, Machine, InRange, Valid}
 use Rattle.model.specs.Trace.{Handed, steps}
-use Rattle.model.specs.Word.{Activates}
+use Rattle.model.specs.Word.{Word, Activates}
+use Rattle.model.specs.Order.{due}
 use Rattle.model.specs.Stamps.{gapsFrom, wordFrom}
 use Rattle.model.proofs.Paths.{length-steps}
 use Rattle.table.specs.declared.Table.{Table}
@@ -27,10 +28,10 @@ use Rattle.trace.proofs.TraceLaws.{named-in, handed-ranged, trace-handed}
 use Rattle.replay.specs.declared.Replayed.the-variants.{Played, Refused}
 use Rattle.replay.specs.Play.{replayedFields, ownTests, gapTests, replayTests, ReplayOutcome}
 use Rattle.replay.specs.Tried.{Tried}
-use Rattle.replay.specs.Laid.{Laid, LaidOut, Playable}
-use Rattle.replay.proofs.WordLaws.{fits-activates}
+use Rattle.replay.specs.Laid.{Laid, counted, LaidOut, Sizes, WordRun}
+use Rattle.replay.proofs.WordLaws.{parts-of, fits-activates}
 use Rattle.replay.proofs.GapLaws.{gaps-numbered, gaps-law}
-use Rattle.replay.proofs.LaidLaws.{laid, laid-converts, laid-orders, laid-dues}
+use Rattle.replay.proofs.LaidLaws.{plain-laid, laid, laid-converts, laid-orders, laid-dues}
 
 -- each way out of the tests that look at no gap
 module _ (t : Table) (trace stamps o₀ d₀ : List ℕ) where
@@ -67,7 +68,7 @@ module _ (t : Table) (trace stamps o₀ d₀ : List ℕ) where
 
 -- the tests before the gaps', and all of them
 module _ (m : Machine) (trace : List ℕ) (start : ℕ) (stamps o₀ d₀ : List ℕ) where
-  abbrev first : List Test
+  abbrev pub first : List Test
   first = afterTable m (ownTests m trace stamps o₀ d₀)
 
   abbrev last : List Test
@@ -109,7 +110,22 @@ module _ (m : Machine) (trace : List ℕ) (start : ℕ) (stamps o₀ d₀ : List
         (passed-stamped all-first ∙ sym (length-steps (m .transitions) trace))
         (gaps-law (gapsFrom start stamps) (steps (m .transitions) trace) .0 (passes-append first last .0 p .1))
 
--- the gaps, tried on what the code looks up
+-- each way out of a single word
+module _ (c trace : List ℕ) (start : ℕ) (stamps o₀ d₀ : List ℕ) where
+  abbrev Run : ℕ → List ℕ → List ℕ → Type 0
+  Run = WordRun c trace start stamps o₀ d₀
+
+  pub unfit-run : (Sizes trace stamps o₀ d₀ → ⊥) → Run 0 o₀ d₀
+  unfit-run n = record { tried = λ z. absurd (n z); laid = λ z. absurd (n z); kept = λ h. (refl, refl); unfit = λ z. (refl, refl, refl) }
+
+  module _ (z : Sizes trace stamps o₀ d₀) {s : ℕ} (tried : Tried (named c trace) (gapsFrom start stamps) s) where
+    pub stopped-run : 1 ≤ s → Run s o₀ d₀
+    stopped-run h = record { tried = λ y. tried; laid = λ y e. absurd (omega arith); kept = λ y. (refl, refl); unfit = λ n. absurd (n z) }
+
+    pub played-run : {o d : List ℕ} → s ≡ 0 → LaidOut c trace start stamps o₀ d₀ o d → Run 0 o d
+    played-run e l = record { tried = λ y. rw e at tried; laid = λ y x. l; kept = λ y. absurd (omega arith); unfit = λ n. absurd (n z) }
+
+-- a single word on the transitions that the code looks up, after the tests: the replay's own outcome
 module _ (t : Table) (trace : List ℕ) (start : ℕ) (stamps o₀ d₀ : List ℕ) (p : Passes (first (machineOf t) trace start stamps o₀ d₀)) where
   abbrev own : Machine
   own = machineOf t
@@ -120,40 +136,46 @@ module _ (t : Table) (trace : List ℕ) (start : ℕ) (stamps o₀ d₀ : List �
   same : named (t .cells) trace ≡ tr
   same = named-in t trace (passed-valid own trace start stamps o₀ d₀ p) (passed-handed own trace start stamps o₀ d₀ p)
 
-  module _ {s : ℕ} (tried : Tried (named (t .cells) trace) (gapsFrom start stamps) s) where
-    here : Tried tr (gapsFrom start stamps) s
-    here = rw same at tried
+  sizes : Sizes trace stamps o₀ d₀
+  sizes = record {
+    most = passed-handed own trace start stamps o₀ d₀ p .most;
+    stamped = passed-stamped own trace start stamps o₀ d₀ p;
+    order-room = p .1 .1 .1 .1 .1 .0 .0;
+    due-room = p .1 .1 .1 .1 .1 .0 .1;
+  }
 
-    pub refuses-gap : 1 ≤ s → ReplayOutcome own trace start stamps o₀ d₀ (replayedFields (Refused (Outside s))) o₀ d₀
+  module _ {s : ℕ} {o d : List ℕ} (run : WordRun (t .cells) trace start stamps o₀ d₀ s o d) where
+    here : Tried tr (gapsFrom start stamps) s
+    here = rw same at (run .tried sizes)
+
+    pub refuses-gap : 1 ≤ s → ReplayOutcome own trace start stamps o₀ d₀ (replayedFields (Refused (Outside s))) o d
     refuses-gap h =
         refuses refl
-        (fails-back (first own trace start stamps o₀ d₀) (last own trace start stamps o₀ d₀) 9 s p .1 (here .outside h)) (refl, refl)
+        (fails-back (first own trace start stamps o₀ d₀) (last own trace start stamps o₀ d₀) 9 s p .1 (here .outside h)) (run .kept h)
 
     passes : s ≡ 0 → Passes (replayTests own trace start stamps o₀ d₀)
     passes z = passes-append (first own trace start stamps o₀ d₀) (last own trace start stamps o₀ d₀) .1 (p, here .inside z)
 
-    pub playable : s ≡ 0 → Playable (t .cells) trace start stamps o₀ d₀
-    playable z = record {
-      states = t .states;
-      ranged = rw same (passed-ranged own trace start stamps o₀ d₀ p);
-      most = passed-handed own trace start stamps o₀ d₀ p .most;
-      stamped = passed-stamped own trace start stamps o₀ d₀ p;
-      order-room = p .1 .1 .1 .1 .1 .0 .0;
-      due-room = p .1 .1 .1 .1 .1 .0 .1;
-      activates = rw same (all-activates own trace start stamps o₀ d₀ (passes z));
-    }
+    -- nothing wraps
+    plain : s ≡ 0 → Laid (due tr (wordFrom tr start stamps)) (length tr) o₀ d₀ o d
+    plain z =
+        let e : length trace ≡ length tr = sym (length-steps (own .transitions) trace) in
+        let k : Laid (counted tr (wordFrom tr start stamps)) (length trace) o₀ d₀ o d = rw same at (run .laid sizes z) in
+        plain-laid tr (wordFrom tr start stamps) (passed-ranged own trace start stamps o₀ d₀ p) (rw (← e) (sizes .most)) (parts-of tr start stamps)
+        (all-activates own trace start stamps o₀ d₀ (passes z)) (rw e at k)
 
-    pub plays : {o d : List ℕ} → s ≡ 0 → LaidOut (t .cells) trace start stamps o₀ d₀ o d
-        → ReplayOutcome own trace start stamps o₀ d₀ (replayedFields Played) o d
-    plays {o} {d} z l =
-        let k : Laid tr (wordFrom tr start stamps) (length trace) o₀ d₀ o d = rw same at l in
+    pub plays : s ≡ 0 → ReplayOutcome own trace start stamps o₀ d₀ (replayedFields Played) o d
+    plays z =
+        let e : length tr ≡ length trace = length-steps (own .transitions) trace in
+        let w : Word = wordFrom tr start stamps in
+        let k : Laid (due tr w) (length trace) o₀ d₀ o d = rw e at (plain z) in
         answers (passes z) (
           refl,
           record {
             activates = all-activates own trace start stamps o₀ d₀ (passes z);
-            responses = laid k;
-            converts = laid-converts k (length-steps (own .transitions) trace);
-            orders = laid-orders k;
-            dues = laid-dues k;
+            responses = laid tr w k;
+            converts = laid-converts tr w k e;
+            orders = laid-orders tr w k;
+            dues = laid-dues tr w k;
           },
         )

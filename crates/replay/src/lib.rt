@@ -1,10 +1,12 @@
 // Replay of a timed word on a trace.
+use table::Cells;
 use table::Checked;
 use table::Refusal;
 use table::Table;
 ghost use Rattle.table.specs.Refusal.{checkedFields};
 ghost use Rattle.table.specs.Rows.{machineOf};
 ghost use Rattle.table.specs.Tests.{afterTable, Tested};
+ghost use Rattle.replay.specs.Laid.{WordRun};
 ghost use Rattle.replay.specs.Play.{replayedFields, ownTests, ReplayOutcome};
 
 mod gaps;
@@ -40,6 +42,41 @@ fn tested(t: Table, trace: &[u16], stamps: &[u32], order: &[u16], due: &[u32]) -
     Checked::Sound
 }
 
+// One word on transitions that nobody tested: its steps laid out and 0; or the first step outside its guard, and nothing is written.
+// Where the lengths do not fit nothing is looked at.
+pub fn play_word(
+    cells: &Cells,
+    trace: &[u16],
+    start: u32,
+    stamps: &[u32],
+    order: &mut [u16],
+    due: &mut [u32],
+) -> u16
+    ensures { λ mark. ⌜ WordRun
+        (now (cells .entry)) (now (trace .entry)) start (now (stamps .entry)) (now (order .entry)) (now (due .entry))
+        mark (now (order .exit)) (now (due .exit)) ⌝ }
+{
+    let n = trace.len();
+    if 512 < n {
+        return 0;
+    }
+    if stamps.len() != n {
+        return 0;
+    }
+    if order.len() < n {
+        return 0;
+    }
+    if due.len() < n {
+        return 0;
+    }
+    let outside = gaps::first_outside(cells, trace, start, stamps);
+    if 0 < outside {
+        return outside as u16;
+    }
+    responses::play(cells, trace, start, stamps, order, due);
+    0
+}
+
 // Steps in response order, counted from 1, and beside each its due time in 1/256 tick since the start.
 pub fn replay(
     t: Table,
@@ -56,10 +93,9 @@ pub fn replay(
     if let Checked::Refused(r) = tested(t, trace, stamps, order, due) {
         return Replayed::Refused(r);
     }
-    let outside = gaps::first_outside(&t.cells, trace, start, stamps);
+    let outside = play_word(&t.cells, trace, start, stamps, order, due);
     if 0 < outside {
-        return Replayed::Refused(Refusal::Outside(outside));
+        return Replayed::Refused(Refusal::Outside(outside as usize));
     }
-    responses::play(&t.cells, trace, start, stamps, order, due);
     Replayed::Played
 }

@@ -1,7 +1,8 @@
 use borrow.Author.Needs.{needs}
 use native.Mathlib.Omega.{arith}
 use Rattle.table.specs.Rows.{machineOf}
-use Rattle.replay.proofs.ReplayLaws.{refuses-first, passes-first, passed-stamped, refuses-gap, playable, plays}
+use Rattle.table.specs.Tests.{Passes}
+use Rattle.replay.proofs.ReplayLaws.{first, refuses-first, passes-first, refuses-gap, plays}
 use Rattle.replay.proofs.replay.Statement.{statement}
 use Rattle.replay.proofs.replay.Tie as tie
 
@@ -26,13 +27,11 @@ returns c =
 enum-told : tie.Need-enum-told
 enum-told c = search needs
 
-first-outside-requires : tie.Need-first-outside-requires
-first-outside-requires c κs =
-    let p = c .before .before in
-    let a = p .before .before .before .before .before .before .before .before .before .args in
-    let passes = passes-first (machineOf (a .t1)) (a .trace .now) (a .start) (a .stamps .now) (a .order .now) (a .due .now)
-    (p .enum-told .given .1) (p .before .before .tested .ensures) in
-    passed-stamped (machineOf (a .t1)) (a .trace .now) (a .start) (a .stamps .now) (a .order .now) (a .due .now) passes
+play-word-requires : tie.Need-play-word-requires
+play-word-requires c κs = search needs
+
+cast-t22 : tie.Need-cast-t22
+cast-t22 c = search needs
 
 same-length-3 : tie.Need-same-length-3
 same-length-3 c = search needs
@@ -40,22 +39,18 @@ same-length-3 c = search needs
 same-length-4 : tie.Need-same-length-4
 same-length-4 c = search needs
 
+-- the tests that look at no gap passed
+passed : (p : tie.After-enum-told) → let a = p .before .before .before .before .before .before .before .before .before .args in Passes (first (machineOf (a .t1)) (a .trace .now) (a .start) (a .stamps .now) (a .order .now) (a .due .now))
+passed p =
+    let a = p .before .before .before .before .before .before .before .before .before .args in
+    passes-first (machineOf (a .t1)) (a .trace .now) (a .start) (a .stamps .now) (a .order .now) (a .due .now)
+    (p .enum-told .given .1) (p .before .before .tested .ensures)
+
 returns-2 : tie.Need-returns-2
 returns-2 c =
-    let p = c .before .before .before .before in
-    let a = p .before .before .before .before .before .before .before .before .before .args in
-    let passes = passes-first (machineOf (a .t1)) (a .trace .now) (a .start) (a .stamps .now) (a .order .now) (a .due .now)
-    (p .enum-told .given .1) (p .before .before .tested .ensures) in
-    refuses-gap (a .t1) (a .trace .now) (a .start) (a .stamps .now) (a .order .now) (a .due .now) passes (c .before .first-outside .ensures) (omega arith)
-
-play-requires : tie.Need-play-requires
-play-requires c κs =
-    let p = c .before .before .before .before .before .before .before .before in
-    let a = p .before .before .before .before .before .before .before .before .before .args in
-    let passes = passes-first (machineOf (a .t1)) (a .trace .now) (a .start) (a .stamps .now) (a .order .now) (a .due .now)
-    (p .enum-told .given .1) (p .before .before .tested .ensures) in
-    playable (a .t1) (a .trace .now) (a .start) (a .stamps .now) (a .order .now) (a .due .now) passes
-    (c .before .before .before .before .before .first-outside .ensures) (omega arith)
+    let a = c .before .before .before .before .before .before .before .before .before .before .before .before .before .before .before .before .before .before .before .args in
+    refuses-gap (a .t1) (a .trace .now) (a .start) (a .stamps .now) (a .order .now) (a .due .now)
+    (passed (c .before .before .before .before .before .before .before .before .before .before)) (c .before .before .before .before .before .play-word .ensures) (omega arith)
 
 same-length-5 : tie.Need-same-length-5
 same-length-5 c = search needs
@@ -65,13 +60,9 @@ same-length-6 c = search needs
 
 returns-3 : tie.Need-returns-3
 returns-3 c =
-    let p = c .before .before .before .before .before .before .before .before .before .before .before .before .before in
-    let a = p .before .before .before .before .before .before .before .before .before .args in
-    let passes = passes-first (machineOf (a .t1)) (a .trace .now) (a .start) (a .stamps .now) (a .order .now) (a .due .now)
-    (p .enum-told .given .1) (p .before .before .tested .ensures) in
-    plays (a .t1) (a .trace .now) (a .start) (a .stamps .now) (a .order .now) (a .due .now) passes
-    (c .before .before .before .before .before .before .before .before .before .before .first-outside .ensures) (omega arith)
-    (c .before .before .before .before .play .ensures)
+    let a = c .before .before .before .before .before .before .before .before .before .before .before .before .before .before .before .before .before .before .before .args in
+    plays (a .t1) (a .trace .now) (a .start) (a .stamps .now) (a .order .now) (a .due .now)
+    (passed (c .before .before .before .before .before .before .before .before .before .before)) (c .before .before .before .before .before .play-word .ensures) (omega arith)
 
 pub replay-spec : {M : Type 1} → statement M
 replay-spec =
@@ -83,11 +74,11 @@ replay-spec =
     same-length-2
     returns
     enum-told
-    first-outside-requires
+    play-word-requires
+    cast-t22
     same-length-3
     same-length-4
     returns-2
-    play-requires
     same-length-5
     same-length-6
     returns-3)
