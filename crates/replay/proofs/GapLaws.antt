@@ -54,6 +54,12 @@ module _ (gaps : List ℕ) where
   gaps-numbered i [] = tt
   gaps-numbered i (t ∷ tr) = (omega arith, omega arith, gaps-numbered (suc i) tr)
 
+  -- what they refuse is 9, and names one of the steps
+  pub gaps-refuse : (i : ℕ) (tr : List Transition) (n p : ℕ) → Fails (gapTests i tr gaps) n p → (n ≡ 9) × (i < p) × (p ≤ i + length tr)
+  gaps-refuse i [] n p f = absurd f
+  gaps-refuse i (t ∷ tr) n p (inl f) = (f .1, omega (arith, f .2), omega (arith, f .2))
+  gaps-refuse i (t ∷ tr) n p (inr f) = let r = gaps-refuse (suc i) tr n p (f .1) in (r .0, omega arith, omega arith)
+
   -- all of them hold exactly if every gap is inside its step's guard
   pub gaps-law : (tr : List Transition) → Passes (gapTests 0 tr gaps) ↔ AllFit tr gaps
   gaps-law tr = (

@@ -93,9 +93,9 @@ pub fn replay(
     if let Checked::Refused(r) = tested(t, trace, stamps, order, due) {
         return Replayed::Refused(r);
     }
-    let outside = play_word(&t.cells, trace, start, stamps, order, due);
-    if 0 < outside {
-        return Replayed::Refused(Refusal::Outside(outside as usize));
+    let mark = play_word(&t.cells, trace, start, stamps, order, due);
+    if 0 < mark {
+        return Replayed::Refused(Refusal::Outside(mark as usize));
     }
     Replayed::Played
 }

@@ -1,0 +1,152 @@
+-- The words of a night, and that each is a replay.
+use mathlib.Core.Path.{_≡_, refl, sym, ap, _∙_}
+use mathlib.Core.Logic.{inl, inr, ⊎-elim}
+use mathlib.Core.List.{List, _++_}
+use Prim.Native.Nat.{ℕ, _+_, _*_, _-_, _≤_, _<_}
+use native.Mathlib.Nat.{eq-zero-or-pos, mul-le-mul-right}
+use native.Mathlib.Omega.{arith}
+use lib.ListN.{length, getD, take, drop, set}
+use Rattle.model.specs.Answers.{Fields}
+use Rattle.model.specs.Table.{Machine, Valid}
+use Rattle.model.specs.Trace.{Handed}
+use Rattle.table.specs.declared.Table.{Table}
+use Rattle.table.specs.declared.Refusal.{Refusal}
+use Rattle.table.specs.declared.Refusal.the-variants.{NoTrace, Uneven, NoRoom, Outside}
+use Rattle.table.specs.declared.Checked.{Checked}
+use Rattle.table.specs.declared.Checked.the-variants as checked
+use Rattle.table.specs.Refusal.{refusedFields, checkedFields}
+use Rattle.table.specs.Rows.{machineOf}
+use Rattle.table.specs.Tests.{Test, Passes, refuses, answers, Tested, CheckOutcome}
+use Rattle.table.proofs.TestLaws.{tested-passes, tested-fails, refused-fails, passes-valid, valid-passes, valid-fails}
+use Rattle.trace.specs.Named.{TraceIn}
+use Rattle.trace.proofs.TraceLaws.{trace-handed}
+use Rattle.replay.specs.declared.Replayed.the-variants as replayed
+use Rattle.replay.specs.Laid.{WordRun}
+use Rattle.replay.specs.Play as replay
+use Rattle.replay.proofs.ReplayLaws.{first, refuses-gap, plays}
+use Rattle.night.specs.declared.Words.the-variants.{Played, Refused}
+use Rattle.night.specs.Night.{wordsFields, part, Room, ownTests, wordsTests, WordPlays, AllPlay, WordsOutcome, WordsRun}
+use Rattle.night.proofs.PartLaws.{next-fits, length-part, one-word}
+
+-- one word more, with the places that the code lends: from `at` to `at + n`
+module _ (c trace starts stamps o₀ d₀ m₀ : List ℕ) (w at : ℕ) (o d m : List ℕ) (k : WordsRun c trace starts stamps w o₀ d₀ m₀ o d m)
+    (ea : at ≡ w * length trace) (h : w < length starts) (ro : length starts * length trace ≤ length o) (rd : length starts * length trace ≤ length d)
+    (rm : length starts ≤ length m) where
+  abbrev lent : List ℕ → List ℕ
+  lent l = take (at + length trace - at) (drop at l)
+
+  abbrev back : List ℕ → List ℕ → List ℕ
+  back l new = take at l ++ (new ++ drop (at + length trace - at) (drop at l))
+
+  pub one-run : {o' d' : List ℕ} (mark : ℕ) → length o' ≡ length (lent o) → length d' ≡ length (lent d)
+      → WordRun c trace (getD starts w 0) (lent stamps) (lent o) (lent d) mark o' d'
+      → WordsRun c trace starts stamps (w + 1) o₀ d₀ m₀ (back o o') (back d d') (set m w mark)
+  one-run {o'} {d'} mark so sd x =
+      let n : ℕ = length trace in
+      let z : w * n + n - w * n ≡ n = omega arith in
+      let fits : w * n + n ≤ length starts * n = next-fits w (length starts) n h in
+      let fo : w * n + n ≤ length o = omega arith in
+      let fd : w * n + n ≤ length d = omega arith in
+      rw (ea, z)
+      (one-word n (λ w mark o₀ d₀ o d. WordRun c trace (getD starts w 0) (part n w stamps) o₀ d₀ mark o d) o₀ d₀ m₀ w o d m o' d' mark k
+      fo fd (omega arith) (rw (ea, z) at so ∙ length-part n w o fo) (rw (ea, z) at sd ∙ length-part n w d fd) (rw (ea, z) at x))
+
+-- each way out of the tests
+module _ (t : Table) (trace starts stamps o₀ d₀ m₀ : List ℕ) where
+  abbrev m : Machine
+  m = machineOf t
+
+  abbrev others : List Test
+  others = ownTests m trace starts stamps o₀ d₀ m₀
+
+  abbrev Told : Fields → Type 0
+  Told = Tested (wordsTests m trace starts stamps o₀ d₀ m₀)
+
+  pub fails-table : {a : Checked} {r : Refusal} → a ≡ checked.Refused r → CheckOutcome m (checkedFields a) → Told (refusedFields r)
+  fails-table e x = refuses refl (refused-fails m others e x) tt
+
+  pub fails-trace : Valid m → (TraceIn (t .cells) (t .count) trace → ⊥) → Told (refusedFields NoTrace)
+  fails-trace valid n =
+      refuses refl (valid-fails m valid others 6 0 .1 (inl ((λ h. n (trace-handed t trace valid .1 h)), refl, refl))) tt
+
+  -- of a valid table and a trace of it, the lengths decide
+  abbrev Even : Type 0
+  Even = (length starts ≤ 256) × (length stamps ≡ length starts * length trace)
+
+  pub record Lengths : Type 0 where
+    pub most : length trace ≤ 512
+    pub uneven : (Even → ⊥) → Told (refusedFields Uneven)
+    pub cramped : Even → (Room (length starts) (length trace) o₀ d₀ m₀ → ⊥) → Told (refusedFields NoRoom)
+    pub roomy : Even → Room (length starts) (length trace) o₀ d₀ m₀ → Told (checkedFields checked.Sound)
+
+  pub lengths : Valid m → TraceIn (t .cells) (t .count) trace → Lengths
+  lengths valid traced =
+      let handed = trace-handed t trace valid .0 traced in
+      record {
+        most = handed .most;
+        uneven = λ n. refuses refl (valid-fails m valid others 7 0 .1 (inr (handed, inl (n, refl, refl)))) tt;
+        cramped = λ e n. refuses refl (valid-fails m valid others 8 0 .1 (inr (handed, inr (e, inl (n, refl, refl))))) tt;
+        roomy = λ e r. answers (valid-passes m valid others (handed, (e, (r, tt)))) refl;
+      }
+
+-- the call after its tests
+module _ (m : Machine) (trace starts stamps o₀ d₀ m₀ : List ℕ) where
+  abbrev tests : List Test
+  tests = wordsTests m trace starts stamps o₀ d₀ m₀
+
+  abbrev n : ℕ
+  n = length trace
+
+  pub refused : {a : Checked} {r : Refusal} → a ≡ checked.Refused r → Tested tests (checkedFields a)
+      → WordsOutcome m trace starts stamps o₀ d₀ m₀ (wordsFields (Refused r)) o₀ d₀ m₀
+  refused {r = r} e x = refuses refl (tested-fails tests e x) (refl, refl, refl)
+
+  pub passed : {a : Checked} → a ≡ checked.Sound → Tested tests (checkedFields a) → Passes tests
+  passed e x = tested-passes tests (omega arith) e x
+
+  module _ (p : Passes tests) where
+    pub passed-room : (length stamps ≡ length starts * n) × Room (length starts) n o₀ d₀ m₀
+    passed-room = (p .1 .1 .1 .1 .0 .1, p .1 .1 .1 .1 .1 .0)
+
+    -- a word's own places pass the tests of a replay that look at no gap
+    pub word-first : (w : ℕ) → w < length starts → Passes (first m trace (getD starts w 0) (part n w stamps) (part n w o₀) (part n w d₀))
+    word-first w h =
+        let fits : w * n + n ≤ length starts * n = next-fits w (length starts) n h in
+        let even : length stamps ≡ length starts * n = passed-room .0 in
+        let room : Room (length starts) n o₀ d₀ m₀ = passed-room .1 in
+        let es : length (part n w stamps) ≡ n = length-part n w stamps (omega arith) in
+        let eo : length (part n w o₀) ≡ n = length-part n w o₀ (omega (arith, room .order-room)) in
+        let ed : length (part n w d₀) ≡ n = length-part n w d₀ (omega (arith, room .due-room)) in
+        valid-passes m (passes-valid m (ownTests m trace starts stamps o₀ d₀ m₀) p)
+        (replay.ownTests m trace (part n w stamps) (part n w o₀) (part n w d₀))
+        (p .1 .1 .1 .0, (es, ((omega arith, omega arith), tt)))
+
+-- so each word is a replay
+module _ (t : Table) (trace starts stamps o₀ d₀ m₀ : List ℕ) (p : Passes (wordsTests (machineOf t) trace starts stamps o₀ d₀ m₀)) where
+  module _ {o d marks : List ℕ} (k : WordsRun (t .cells) trace starts stamps (length starts) o₀ d₀ m₀ o d marks) where
+    single : (w : ℕ) → w < length starts
+        → WordPlays (λ f. replay.ReplayOutcome (machineOf t) trace (getD starts w 0) (part (length trace) w stamps)
+        (part (length trace) w o₀) (part (length trace) w d₀) f (part (length trace) w o) (part (length trace) w d)) (getD marks w 0)
+    single w h =
+        let n : ℕ = length trace in
+        let q = word-first (machineOf t) trace starts stamps o₀ d₀ m₀ p w h in
+        let s : ℕ = getD starts w 0 in
+        let x = k .word w h in
+        ⊎-elim
+        (λ (e : getD marks w 0 ≡ 0). record {
+          said = replay.replayedFields replayed.Played;
+          outcome = plays t trace s (part n w stamps) (part n w o₀) (part n w d₀) q x e;
+          marked = e;
+        })
+        (λ (l : 0 < getD marks w 0). record {
+          said = replay.replayedFields (replayed.Refused (Outside (getD marks w 0)));
+          outcome = refuses-gap t trace s (part n w stamps) (part n w o₀) (part n w d₀) q x (omega arith);
+          marked = refl;
+        })
+        (eq-zero-or-pos (getD marks w 0))
+
+    pub all-played : WordsOutcome (machineOf t) trace starts stamps o₀ d₀ m₀ (wordsFields (Played (length starts))) o d marks
+    all-played = answers p (
+      refl,
+      record { word = single; order-rest = k .order-rest; due-rest = k .due-rest; marks-rest = k .marks-rest; marks-count = k .marks-count },
+    )
