@@ -1,6 +1,6 @@
 /* Time per call of the library and of the plain C version, from one alternating run, and the library's stack.
  *
- * Links the library's five calls (sandgusset_...) with those of bench/sandgusset.c under other names (base_...).
+ * Links the library's six calls (sandgusset_...) with those of bench/sandgusset.c under other names (base_...).
  * bench/run builds it, runs it and prints a table of what it says. It says, in lines whose words are parted by tabs:
  *   time   group  name  goal (greatest ratio, or 0)  seconds per call of the library  of the baseline
  *   stack  call   bytes that it used  bytes that the header names
@@ -23,13 +23,15 @@ uint64_t base_order(const uint8_t *, size_t, uint8_t *, size_t, uint8_t *, size_
 uint64_t base_judge_trace(const uint8_t *, size_t, const uint8_t *, size_t, uint8_t *, size_t);
 uint64_t base_replay(const uint8_t *, size_t, const uint8_t *, size_t, uint32_t, const uint8_t *, size_t,
                      uint8_t *, size_t, uint8_t *, size_t);
+uint64_t base_replay_words(const uint8_t *, size_t, const uint8_t *, size_t, const uint8_t *, size_t, const uint8_t *, size_t,
+                           uint8_t *, size_t, uint8_t *, size_t, uint8_t *, size_t);
 uint64_t base_rewrite(const uint8_t *, size_t, uint8_t *, size_t);
 
-enum { JUDGE, ORDER, JUDGE_TRACE, REPLAY, REWRITE, CALLS };
+enum { JUDGE, ORDER, JUDGE_TRACE, REPLAY, REPLAY_WORDS, REWRITE, CALLS };
 enum { LIBRARY, BASELINE };
 enum { LEAST_ROUNDS = 51, MOST_ROUNDS = 1001, MAX_WORKS = 40 };
 
-static const char *const call_names[CALLS] = { "judge", "order", "judge_trace", "replay", "rewrite" };
+static const char *const call_names[CALLS] = { "judge", "order", "judge_trace", "replay", "replay_words", "rewrite" };
 
 struct work {
     char name[80];
@@ -42,6 +44,7 @@ struct work {
     size_t trace_len;
     uint8_t stamps[4 * SANDGUSSET_MAX_STEPS];
     size_t stamps_len;
+    unsigned words;             /* so many of the night; in a replay one by one, instead of its own stamps */
     double time[2];
 };
 
@@ -51,6 +54,33 @@ static unsigned work_count;
 /* ---- calls ---- */
 
 static uint8_t room16[2 * SANDGUSSET_MAX_STEPS], room32[8 * SANDGUSSET_MAX_STEPS], room_file[SANDGUSSET_MAX_FILE];
+
+/* Words of 512 steps, and the rooms for what they are answered. */
+enum { NIGHT_STEPS = SANDGUSSET_MAX_WORDS * SANDGUSSET_MAX_STEPS };
+static uint8_t night_starts[4 * SANDGUSSET_MAX_WORDS], night_stamps[4 * NIGHT_STEPS], night_order[2 * NIGHT_STEPS],
+    night_due[4 * NIGHT_STEPS], night_marks[2 * SANDGUSSET_MAX_WORDS];
+
+static uint64_t in_one_call(int who, const struct work *w)
+{
+    return (who == LIBRARY ? sandgusset_replay_words : base_replay_words)(
+        w->file, w->file_len, w->trace, w->trace_len, night_starts, 4 * (size_t)w->words, night_stamps,
+        4 * (size_t)w->words * SANDGUSSET_MAX_STEPS, night_order, sizeof night_order, night_due, sizeof night_due, night_marks,
+        sizeof night_marks);
+}
+
+/* Answers as the last word is answered, or the first that is refused. */
+static uint64_t one_by_one(int who, const struct work *w)
+{
+    uint64_t answer = 0;
+    for (unsigned i = 0; i < w->words && !sandgusset_refused(answer); i++) {
+        size_t at = (size_t)i * SANDGUSSET_MAX_STEPS;
+        answer = (who == LIBRARY ? sandgusset_replay : base_replay)(
+            w->file, w->file_len, w->trace, w->trace_len, sandgusset_get32(night_starts, i), night_stamps + 4 * at,
+            4 * SANDGUSSET_MAX_STEPS, night_order + 2 * at, 2 * SANDGUSSET_MAX_STEPS, night_due + 4 * at,
+            4 * SANDGUSSET_MAX_STEPS);
+    }
+    return answer;
+}
 
 static uint64_t perform(int who, const struct work *w)
 {
@@ -64,7 +94,11 @@ static uint64_t perform(int who, const struct work *w)
     case JUDGE_TRACE:
         return (who == LIBRARY ? sandgusset_judge_trace : base_judge_trace)(w->file, w->file_len, w->trace,
                                                                             w->trace_len, room32, sizeof room32);
+    case REPLAY_WORDS:
+        return in_one_call(who, w);
     case REPLAY:
+        if (w->words > 0)
+            return one_by_one(who, w);
         return (who == LIBRARY ? sandgusset_replay : base_replay)(w->file, w->file_len, w->trace, w->trace_len, 0,
                                                                   w->stamps, w->stamps_len, room16, sizeof room16,
                                                                   room32, sizeof room32);
@@ -172,7 +206,8 @@ static size_t stack_used(const struct work *w)
 static void tell_stacks(void)
 {
     static const size_t limits[CALLS] = { SANDGUSSET_STACK_JUDGE, SANDGUSSET_STACK_ORDER, SANDGUSSET_STACK_JUDGE_TRACE,
-                                          SANDGUSSET_STACK_REPLAY, SANDGUSSET_STACK_REWRITE };
+                                          SANDGUSSET_STACK_REPLAY, SANDGUSSET_STACK_REPLAY_WORDS,
+                                          SANDGUSSET_STACK_REWRITE };
     size_t empty = stack_used(NULL), most[CALLS] = { 0 };
     for (unsigned i = 0; i < work_count; i++) {
         size_t used = stack_used(&works[i]);
@@ -346,9 +381,34 @@ static void long_trace(struct work *w, unsigned loops)
     }
 }
 
+/* Every second word has gaps of 25 ticks, under which no step overtakes another; the others many. */
+static void make_night(void)
+{
+    for (unsigned i = 0; i < SANDGUSSET_MAX_WORDS; i++) {
+        uint32_t now = 1000 * i, gap = i % 2 == 0 ? 257 : 25 * 256;
+        sandgusset_put32(night_starts, i, now);
+        for (unsigned j = 0; j < SANDGUSSET_MAX_STEPS; j++)
+            sandgusset_put32(night_stamps, i * SANDGUSSET_MAX_STEPS + j, now += gap);
+    }
+}
+
+/* So many words on a table of 256 loops, 512 steps through the first dozen. */
+static struct work *new_night(const char *name, int call, double goal, unsigned wanted, unsigned words)
+{
+    struct work *w = new_work(name, call, goal, wanted);
+    struct maker m = begin(w, 1);
+    for (unsigned i = 0; i < 256; i++)
+        add(&m, 0, 0, 1, 30, 240 - 20 * (i % 12));
+    end(&m);
+    long_trace(w, 12);
+    w->words = words;
+    return w;
+}
+
 /* ---- what is measured ---- */
 
-static unsigned main_works, by_transitions, by_delay;
+static const struct work *many_words, *one_word;
+static unsigned main_works, by_words, by_transitions, by_delay;
 
 static void make_works(void)
 {
@@ -377,6 +437,11 @@ static void make_works(void)
     end(&m);
     long_trace(w, 12);
     main_works = work_count;
+    make_night();
+    many_words = new_night("replay_words: 256 words of 512 steps", REPLAY_WORDS, 1.2, SANDGUSSET_REPLAYED, 256);
+    one_word = new_night("replay_words: 1 word of 512 steps", REPLAY_WORDS, 1.3, SANDGUSSET_REPLAYED, 1);
+    new_night("replay: 256 words of 512 steps, one by one", REPLAY, 1.3, SANDGUSSET_REPLAYED, 256);
+    by_words = work_count;
     for (unsigned i = 0; i < sizeof transitions / sizeof transitions[0]; i++) {
         char name[80];
         snprintf(name, sizeof name, "judge: strict, %u transitions, delays to 240", transitions[i]);
@@ -403,6 +468,7 @@ static void make_works(void)
     full_table(w = new_work("replay: 256 transitions, refused", REPLAY, 0, SANDGUSSET_BAD_TRACE), 256, 240, 0,
                PAST_CORE);
     long_trace(w, 12);
+    new_night("replay_words: refused", REPLAY_WORDS, 0, SANDGUSSET_BAD_STAMPS, 256)->trace_len -= 2;
     full_table(w = new_work("judge: refused", JUDGE, 0, SANDGUSSET_BAD_RECORD), 256, 240, 0, PAST_CORE);
     w->file_len -= 1;
     full_table(w = new_work("order: refused", ORDER, 0, SANDGUSSET_BAD_RECORD), 256, 240, 0, PAST_CORE);
@@ -416,6 +482,25 @@ static void tell_time(const char *group, struct work *w)
     fflush(stdout);
 }
 
+/* What a word costs after the first one. */
+static void tell_further_word(void)
+{
+    double further[2];
+    for (int who = LIBRARY; who <= BASELINE; who++)
+        further[who] = (many_words->time[who] - one_word->time[who]) / (many_words->words - one_word->words);
+    printf("time\twords\treplay_words: each further word\t%.2f\t%.12f\t%.12f\n", 1.1, further[LIBRARY],
+           further[BASELINE]);
+}
+
+/* Is a word of the last night marked as refused? */
+static int any_marked(const struct work *w)
+{
+    for (unsigned i = 0; w->call == REPLAY_WORDS && i < w->words; i++)
+        if (sandgusset_get16(night_marks, i) != 0)
+            return 1;
+    return 0;
+}
+
 static void tell_wrongs(void)
 {
     for (unsigned i = 0; i < work_count; i++)
@@ -424,6 +509,8 @@ static void tell_wrongs(void)
             if (sandgusset_status(answer) != works[i].wanted)
                 printf("wrong\tthe %s answers status %u to '%s', wanted %u\n", who == LIBRARY ? "library" : "baseline",
                        sandgusset_status(answer), works[i].name, (unsigned)works[i].wanted);
+            else if (any_marked(&works[i]))
+                printf("wrong\tthe %s marks a word of '%s'\n", who == LIBRARY ? "library" : "baseline", works[i].name);
         }
 }
 
@@ -452,7 +539,10 @@ int main(int argc, char **argv)
         return 0;
     for (unsigned i = 0; i < main_works; i++)
         tell_time("calls", &works[i]);
-    for (unsigned i = main_works; i < by_transitions; i++)
+    for (unsigned i = main_works; i < by_words; i++)
+        tell_time("words", &works[i]);
+    tell_further_word();
+    for (unsigned i = by_words; i < by_transitions; i++)
         tell_time("transitions", &works[i]);
     for (unsigned i = by_transitions; i < by_delay; i++)
         tell_time("delay", &works[i]);

@@ -1,6 +1,7 @@
 /* The wrong versions that bench/sandgusset.c holds when it is compiled with -DSANDGUSSET_VARIANTS.
- * VARIANT(name, what it does wrong); the first has number 1. TWIN names a mistake of the same list that here
- * sandgusset_order makes alone, all other calls being right; its own name is ORDER_ and that one. */
+ * VARIANT(name, what it does wrong); the first has number 1. TWIN names a mistake of the same list that here one call
+ * makes alone, all others being right: sandgusset_order, its own name being ORDER_ and that one, or
+ * sandgusset_replay_words, with WORDS_. */
 #ifndef SANDGUSSET_VARIANTS_H
 #define SANDGUSSET_VARIANTS_H
 
@@ -30,6 +31,33 @@
     TWIN(VARIANT, STRICT_TO_ALL, "order: useless: says in order to all") \
     TWIN(VARIANT, REFUSES_ALL, "order: useless: refuses everything") \
     TWIN(VARIANT, FIXED_TRACE, "order: useless: says overtaken with a fixed trace")
+
+#define SANDGUSSET_WORDS_TWIN_LIST(TWIN, VARIANT) \
+    TWIN(VARIANT, RAW_GAPS, "words: a stamp below the one before is refused") \
+    TWIN(VARIANT, RAW_ORDER, "words: orders by raw due times") \
+    TWIN(VARIANT, RAW_DUE, "words: counts due times from stamp 0, not from the start") \
+    TWIN(VARIANT, WRITES_ON_READ, "words: writes to a lent room when the file is refused") \
+    TWIN(VARIANT, WRITES_ON_8, "words: writes to a room that is too short") \
+    TWIN(VARIANT, WRITES_ON_9, "words: writes before all gaps of a word are tested") \
+    TWIN(VARIANT, TIE_TO_LATER, "words: at equal due times the later step comes first") \
+    TWIN(VARIANT, ODD_TRACE, "words: accepts a trace of odd length") \
+    TWIN(VARIANT, ODD_STAMPS, "words: accepts stamps that are not a multiple of four bytes") \
+    TWIN(VARIANT, ROOM_ROUNDED_UP, "words: rounds room up to whole places") \
+    TWIN(VARIANT, ROOM_WHEN_NEEDED, "words: asks for room for responses only if a word is accepted") \
+    TWIN(VARIANT, TAIL_ACCEPTED, "words: accepts bytes after the end record") \
+    TWIN(VARIANT, STEPS_513, "words: accepts a trace of 513 steps") \
+    TWIN(VARIANT, NOT_JOINED, "words: accepts a trace that is not joined") \
+    TWIN(VARIANT, SEVEN_BEFORE_SIX, "words: tests 7 before 6") \
+    TWIN(VARIANT, COUNTS_16, "words: cuts counts of places to 16 bits") \
+    TWIN(VARIANT, LENGTHS_32, "words: cuts lengths to 32 bits") \
+    TWIN(VARIANT, GAP_U_ACCEPTED, "words: accepts a gap of exactly u") \
+    TWIN(VARIANT, GAP_V_REFUSED, "words: refuses a gap of exactly v") \
+    TWIN(VARIANT, STEP_FROM_0, "words: counts steps from 0") \
+    TWIN(VARIANT, UNUSED_CLEARED, "words: clears places that no word uses") \
+    TWIN(VARIANT, REFUSES_ALL, "words: useless: refuses everything") \
+    TWIN(VARIANT, REPLAY_WRITES_NOTHING, "words: useless: writes marks alone") \
+    TWIN(VARIANT, FIRST_STEP_ONLY, "words: useless: orders each word's first step and copies the rest") \
+    TWIN(VARIANT, EMPTY_TABLE_READ, "words: useless: always takes the empty table")
 
 #define SANDGUSSET_VARIANT_LIST(VARIANT) \
     VARIANT(WHOLE_TICKS, "tests whole ticks only") \
@@ -128,9 +156,48 @@
     VARIANT(ORDER_TRACE_269, "order: takes 269 trace places for enough") \
     VARIANT(ORDER_STAMPS_269, "order: takes 269 stamp places for enough") \
     VARIANT(ORDER_STAMPS_540, "order: asks for 540 stamp places") \
-    VARIANT(ORDER_STAMPS_BEFORE_8, "order: writes the stamps, then refuses a trace room that is too short")
+    VARIANT(ORDER_STAMPS_BEFORE_8, "order: writes the stamps, then refuses a trace room that is too short") \
+    SANDGUSSET_WORDS_TWIN_LIST(SANDGUSSET_VARIANT_OF_WORDS_TWIN, VARIANT) \
+    VARIANT(WORDS_REFUSED_ENDS, "words: a refused word ends the call") \
+    VARIANT(WORDS_ANSWERS_9, "words: a refused word refuses the call") \
+    VARIANT(WORDS_REFUSED_CLEARED, "words: clears a refused word's places") \
+    VARIANT(WORDS_REFUSED_PLAYED, "words: plays a refused word all the same") \
+    VARIANT(WORDS_PACKED, "words: a refused word takes up no places") \
+    VARIANT(WORDS_CHAINED, "words: takes the last stamp of the word before for a start") \
+    VARIANT(WORDS_FIRST_START, "words: takes the first start for every word") \
+    VARIANT(WORDS_DUE_FROM_FIRST, "words: tests a word from its own start, counts its due times from the first") \
+    VARIANT(WORDS_FIRST_STAMPS, "words: takes the stamps of the first word for every word") \
+    VARIANT(WORDS_LAST_SKIPPED, "words: leaves out the last word") \
+    VARIANT(WORDS_COUNT_8, "words: keeps 8 bits of the number of words") \
+    VARIANT(WORDS_PLACES_16, "words: keeps 16 bits of the place where a word's responses begin") \
+    VARIANT(WORDS_MARK_FROM_0, "words: counts the step of a mark from 0") \
+    VARIANT(WORDS_MARK_LAST, "words: marks the last step outside its guard") \
+    VARIANT(WORDS_MARK_IS_9, "words: marks a refused word with 9") \
+    VARIANT(WORDS_MARK_PAST_END, "words: marks an accepted word with the step after its last") \
+    VARIANT(WORDS_MARK_OF_8_BITS, "words: keeps 8 bits of a mark") \
+    VARIANT(WORDS_MARK_KEPT, "words: doesn't write the mark of an accepted word") \
+    VARIANT(WORDS_257, "words: accepts a 257th word") \
+    VARIANT(WORDS_255, "words: refuses a 256th word") \
+    VARIANT(WORDS_NEEDS_ONE, "words: refuses a call without words") \
+    VARIANT(WORDS_NONE_FIRST, "words: without words doesn't test the trace") \
+    VARIANT(WORDS_STAMPS_ALONE, "words: without words accepts stamps") \
+    VARIANT(WORDS_WRITES_WITHOUT, "words: without words writes a mark") \
+    VARIANT(WORDS_STAMPS_LEFT_OVER, "words: accepts more stamps than words times steps") \
+    VARIANT(WORDS_BY_STAMPS, "words: plays as many words as there are stamps for") \
+    VARIANT(WORDS_ODD_STARTS, "words: accepts starts that are not a multiple of four bytes") \
+    VARIANT(WORDS_EIGHT_BEFORE_SEVEN, "words: tests 8 before 7") \
+    VARIANT(WORDS_ROOM_OF_ONE, "words: asks for the room of one word") \
+    VARIANT(WORDS_ORDER_UNTESTED, "words: doesn't test the room for the order") \
+    VARIANT(WORDS_DUE_UNTESTED, "words: doesn't test the room for due times") \
+    VARIANT(WORDS_MARKS_UNTESTED, "words: doesn't test the room for marks") \
+    VARIANT(WORDS_MARKS_256, "words: asks for 256 marks") \
+    VARIANT(WORDS_MARKS_OF_4, "words: asks for four bytes a mark") \
+    VARIANT(WORDS_UNNAMED, "words: names no number of words") \
+    VARIANT(WORDS_ACCEPTED_NAMED, "words: names the number of accepted words") \
+    VARIANT(WORDS_STEPS_NAMED, "words: names the steps too")
 
 #define SANDGUSSET_VARIANT_OF_TWIN(VARIANT, name, what) VARIANT(ORDER_##name, what)
+#define SANDGUSSET_VARIANT_OF_WORDS_TWIN(VARIANT, name, what) VARIANT(WORDS_##name, what)
 #define SANDGUSSET_VARIANT_NUMBER(name, what) V_##name,
 enum { V_NONE, SANDGUSSET_VARIANT_LIST(SANDGUSSET_VARIANT_NUMBER) V_COUNT };
 

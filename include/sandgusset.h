@@ -1,6 +1,6 @@
 /* sandgusset.h - judges controller tables from C.
  *
- * Five calls on plain numbers and byte buffers. Every call answers for every input, and its answer depends on what it
+ * Six calls on plain numbers and byte buffers. Every call answers for every input, and its answer depends on what it
  * is handed alone.
  *
  * WHAT IS LENT
@@ -9,8 +9,8 @@
  *   - A const buffer is only read. It may lie in read-only memory.
  *   - No buffer needs any alignment.
  *   - The buffers of one call must not overlap.
- *   - All numbers in buffers are little-endian: transition numbers and step numbers take places of two bytes, stamps
- *     and due times places of four. sandgusset_get16 and its sisters below read and write such places.
+ *   - All numbers in buffers are little-endian: transition numbers, step numbers and marks take places of two bytes,
+ *     stamps and due times places of four. sandgusset_get16 and its sisters below read and write such places.
  *   - Room counts whole places: 5 bytes are two places of two, and the fifth byte is never touched.
  *   - Nothing is kept, and no memory is asked for: a call works in what is lent and on its stack. So calls may run in
  *     several threads at once, as long as no buffer that a call writes is shared with another.
@@ -37,12 +37,14 @@
  *   4  the table file: a number outside its range
  *   5  the table file: a transition equal to an earlier one
  *   6  the trace: empty, longer than 512 steps, of odd length in bytes, naming no transition, or not joined
- *   7  the stamps: not as many as steps, or not a multiple of four bytes
+ *   7  the stamps: not as many as steps, of all words together, or not a multiple of four bytes; or the start stamps of
+ *      words: more than 256, or not a multiple of four bytes
  *   8  a lent room is too short
  *   9  a gap outside its guard
  *   For 1 to 5 the place (first) is the offset in the file of the refused record, or of the first byte after the end
  *   record. For 9 it is the first such step, counted from 1. For 6, 7 and 8 it is 0. The file is tested first, then
- *   6, 7, 8 and 9 in this order, as far as they apply to the call.
+ *   6, 7, 8 and 9 in this order, as far as they apply to the call. sandgusset_replay_words is never refused with 9: it
+ *   marks each such word.
  *
  * THE TABLE FILE
  *   Records: two bytes of length (counting all that follow them), two bytes of kind, the body, all in numbers of two
@@ -70,9 +72,9 @@ extern "C" {
 #endif
 
 /* The version: a minor one adds calls and numbers, a major one changes what a call means (CHANGELOG.md). */
-#define SANDGUSSET_VERSION "1.2.0"
+#define SANDGUSSET_VERSION "1.3.0"
 #define SANDGUSSET_VERSION_MAJOR 1
-#define SANDGUSSET_VERSION_MINOR 2
+#define SANDGUSSET_VERSION_MINOR 3
 #define SANDGUSSET_VERSION_PATCH 0
 
 /* Values of the status field. */
@@ -80,7 +82,7 @@ extern "C" {
 #define SANDGUSSET_STRICT 0         /* sandgusset_judge: neither split nor turning */
 #define SANDGUSSET_IN_ORDER 0       /* sandgusset_order: no step can be overtaken */
 #define SANDGUSSET_STEADY 0         /* sandgusset_judge_trace: no pair of steps turns */
-#define SANDGUSSET_REPLAYED 0       /* sandgusset_replay */
+#define SANDGUSSET_REPLAYED 0       /* sandgusset_replay; sandgusset_replay_words: first is the number of words */
 #define SANDGUSSET_WRITTEN 0        /* sandgusset_rewrite: first is the number of bytes */
 #define SANDGUSSET_BAD_RECORD 1     /* first: offset of the record */
 #define SANDGUSSET_BAD_KIND 2       /* first: offset of the record, or of the first byte after the end */
@@ -98,6 +100,7 @@ extern "C" {
 /* Limits. */
 #define SANDGUSSET_MAX_FILE 4620        /* bytes of the longest table file */
 #define SANDGUSSET_MAX_STEPS 512        /* steps of the longest trace that is handed in */
+#define SANDGUSSET_MAX_WORDS 256        /* words of one sandgusset_replay_words */
 #define SANDGUSSET_TRACE_PLACES 270     /* trace places that sandgusset_judge and sandgusset_order need: 540 bytes */
 #define SANDGUSSET_STAMP_PLACES 540     /* stamp places that sandgusset_judge needs: 2,160 bytes */
 #define SANDGUSSET_ORDER_PLACES 270     /* stamp places that sandgusset_order needs: 1,080 bytes */
@@ -111,6 +114,7 @@ extern "C" {
 #define SANDGUSSET_STACK_ORDER 40960
 #define SANDGUSSET_STACK_JUDGE_TRACE 20480
 #define SANDGUSSET_STACK_REPLAY 24576
+#define SANDGUSSET_STACK_REPLAY_WORDS 21504
 #define SANDGUSSET_STACK_REWRITE 15360
 
 /* Judges a whole table. Refusals: 1 to 5, 8.
@@ -177,6 +181,25 @@ uint64_t sandgusset_replay(const uint8_t *file, size_t file_len,
                            uint8_t *order, size_t order_len,
                            uint8_t *due, size_t due_len);
 
+/* Replays a night of words on one trace. Refusals: 1 to 5, 6, 7, 8.
+ *
+ * There are as many words as places in starts, 0 to 256; each place holds the stamp from which its word's first gap
+ * counts. stamps holds the words end to end, one place per step of each. Lend one place of two bytes per step of every
+ * word in order and one of four bytes in due, and one place of two bytes per word in marks.
+ *
+ * replayed  status 0, first the number of words. On a trace of n steps, places w*n to w*n+n-1 of order and due are those
+ *           of word w, counted from 0, and place w of marks is its mark. Each word is played as by sandgusset_replay with
+ *           its own start: its places hold the answer, due times counting from that start, and its mark is 0. If a gap is
+ *           outside its guard, the mark is the first such step, counted from 1, and the word's places in order and due
+ *           keep what they held. No word changes what another is answered. Without words nothing is written. */
+uint64_t sandgusset_replay_words(const uint8_t *file, size_t file_len,
+                                 const uint8_t *trace, size_t trace_len,
+                                 const uint8_t *starts, size_t starts_len,
+                                 const uint8_t *stamps, size_t stamps_len,
+                                 uint8_t *order, size_t order_len,
+                                 uint8_t *due, size_t due_len,
+                                 uint8_t *marks, size_t marks_len);
+
 /* Reads a table file and writes the table that was read. Refusals: 1 to 5, 8.
  *
  * Lend at least as many bytes as the file has (4,620 are always enough).
@@ -212,7 +235,7 @@ static inline const char *sandgusset_text(unsigned status)
     case SANDGUSSET_BAD_NUMBER: return "a number outside its range";
     case SANDGUSSET_REPEATED: return "a transition equal to an earlier one";
     case SANDGUSSET_BAD_TRACE: return "the trace is empty, too long, of odd length, not joined, or names no transition";
-    case SANDGUSSET_BAD_STAMPS: return "the number of stamps differs from the number of steps";
+    case SANDGUSSET_BAD_STAMPS: return "the number of stamps differs from the number of steps, or there are more than 256 words";
     case SANDGUSSET_NO_ROOM: return "the lent room is too short";
     case SANDGUSSET_BAD_GAP: return "a gap outside its guard";
     case SANDGUSSET_SPLIT: return "split: two transitions are open to one input at one time";

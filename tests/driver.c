@@ -7,11 +7,11 @@
  *
  * Request (little-endian):
  *   4 bytes  "SGRQ"
- *   1        call: 1 judge, 2 judge_trace, 3 replay, 4 rewrite, 5 order
+ *   1        call: 1 judge, 2 judge_trace, 3 replay, 4 rewrite, 5 order, 6 replay_words
  *   1        layout: 0 forbidden pages right after each buffer, 1 right before, 2 guard bytes on both sides and an odd
  *            address (forbidden pages further off)
  *   1        1: empty buffers are NULL
- *   1        number of buffers: 3, 3, 5, 2, 3, in the order of the call's arguments
+ *   1        number of buffers: 3, 3, 5, 2, 3, 7, in the order of the call's arguments
  *   4        start stamp (replay only)
  *   and for each buffer
  *   8        length in bytes
@@ -53,7 +53,7 @@ enum {
     BLOCK = 1 << 16,        /* a multiple of every page size we meet */
     ARENA = 16 * BLOCK,     /* the greatest buffer that is not huge, with its guard bytes */
     GUARD = 64,
-    BUFFERS = 5,
+    BUFFERS = 7,
     SECONDS = 60,
     NO_MEMORY = 255
 };
@@ -208,8 +208,10 @@ static uint64_t perform(int call, uint32_t start, uint8_t *const *p, const size_
         return sandgusset_replay(p[0], n[0], p[1], n[1], start, p[2], n[2], p[3], n[3], p[4], n[4]);
     case 4:
         return sandgusset_rewrite(p[0], n[0], p[1], n[1]);
-    default:
+    case 5:
         return sandgusset_order(p[0], n[0], p[1], n[1], p[2], n[2]);
+    default:
+        return sandgusset_replay_words(p[0], n[0], p[1], n[1], p[2], n[2], p[3], n[3], p[4], n[4], p[5], n[5], p[6], n[6]);
     }
 }
 
@@ -230,8 +232,8 @@ static int check_helpers(void)
 
 static void serve(void)
 {
-    static const int fixed[] = { 0, 1, 2, 3, 1, 1 };    /* so many buffers, from the first, are const */
-    static const int wanted[] = { 0, 3, 3, 5, 2, 3 };
+    static const int fixed[] = { 0, 1, 2, 3, 1, 1, 4 };     /* so many buffers, from the first, are const */
+    static const int wanted[] = { 0, 3, 3, 5, 2, 3, 7 };
     uint8_t head[12];
     while (take(head, sizeof head)) {
         volatile int outcome = 0;
@@ -240,7 +242,7 @@ static void serve(void)
         size_t lengths[BUFFERS];
         int call = head[4], layout = head[5], null_empty = head[6], count = head[7];
         uint32_t start = sandgusset_get32(head, 2);
-        if (memcmp(head, "SGRQ", 4) != 0 || call < 1 || call > 5 || layout > LOOSE || count != wanted[call])
+        if (memcmp(head, "SGRQ", 4) != 0 || call < 1 || call > 6 || layout > LOOSE || count != wanted[call])
             die("not a request");
         for (int i = 0; i < count; i++) {
             struct buffer *b = &buffers[i];

@@ -67,9 +67,11 @@ static void try_numbers(void)
     verdict("places and their bytes", SANDGUSSET_TRACE_BYTES == 2 * SANDGUSSET_TRACE_PLACES &&
                                           SANDGUSSET_STAMP_BYTES == 4 * SANDGUSSET_STAMP_PLACES &&
                                           SANDGUSSET_ORDER_BYTES == 4 * SANDGUSSET_ORDER_PLACES);
+    verdict("256 words of 512 steps", SANDGUSSET_MAX_WORDS == 256 && SANDGUSSET_MAX_STEPS == 512);
     verdict("the stack of each call, in whole KB", whole_kb(SANDGUSSET_STACK_JUDGE) && whole_kb(SANDGUSSET_STACK_ORDER) &&
                                                        whole_kb(SANDGUSSET_STACK_JUDGE_TRACE) &&
                                                        whole_kb(SANDGUSSET_STACK_REPLAY) &&
+                                                       whole_kb(SANDGUSSET_STACK_REPLAY_WORDS) &&
                                                        whole_kb(SANDGUSSET_STACK_REWRITE));
 }
 

@@ -1,5 +1,5 @@
 #!/usr/bin/env bash
-# Builds examples/host.c and runs it on the examples: what it prints and its status.
+# Builds examples/host.c and examples/night.c and runs them on the examples: what they print and their status.
 #
 #   tests/host.sh ARCHIVE           with an archive of the library
 #   tests/host.sh --kit PREFIX      with what tools/install has put below PREFIX, as pkg-config says, on the shared object
@@ -17,31 +17,82 @@ if [ "${1-}" = --kit ]; then
     read -ra words < <(pkg-config --cflags --libs sandgusset)
     runner=$shared_runner
 fi
-"$cc" -std=c99 -O2 -Wall -Wextra -pedantic -Werror "$root/examples/host.c" "${words[@]}" -o host || exit 1
+for program in host night; do
+    "$cc" -std=c99 -O2 -Wall -Wextra -pedantic -Werror "$root/examples/$program.c" "${words[@]}" -o "$program" || exit 1
+done
 
-# run FILE...: what the host printed is in out and err, its status in $status.
+# run PROGRAM FILE...: what it printed is in out and err, its status in $status.
 run() {
-    $runner ./host "$@" >out 2>err </dev/null
+    $runner "./$1" "${@:2}" >out 2>err </dev/null
     status=$?
 }
 
+# trouble NAME WORDS: the last run printed nothing, had status 2 and said so in these words.
+trouble() {
+    [ "$status" -eq 2 ] && [ ! -s out ] && grep -qF -e "$2" err
+    verdict "$1" $?
+}
+
 for name in source-trace download-wide download-narrow split touching; do
-    run "$root/examples/$name.bin"
+    run host "$root/examples/$name.bin"
     [ "$status" -eq 0 ] && cmp -s out "$root/tests/host/$name.out"
     verdict "$name is judged and played as stored" $?
 done
 
-run "$root/examples/inputs-a-b.bin"
+run host "$root/examples/inputs-a-b.bin"
 [ "$status" -eq 0 ] && head -n 1 out | grep -qE '^turning: steps K = 1 and M = [0-9]+ respond in either order$'
 verdict 'inputs-a-b turns from its first step' $?
 
 head -c 40 "$root/examples/source-trace.bin" >cut
-run cut
+run host cut
 [ "$status" -eq 1 ] && grep -q '^refused 1 at 26:' out && [ -z "$(cat err)" ]
 verdict 'a cut file is refused, status 1' $?
 
-run there-is-none
-[ "$status" -eq 2 ] && [ -s err ] && [ ! -s out ]
-verdict 'a file that is not there, status 2' $?
+run host there-is-none
+trouble 'a file that is not there, status 2' there-is-none
+
+# ---- A night of words ----
+
+table=$root/examples/source-trace.bin
+# night LINE...: these lines are the text, the trace first.
+night() {
+    printf '%s\n' "$@" >text
+    run night "$table" text
+}
+
+# refused NAME START: the last run printed one line that begins so, and had status 1.
+refused() {
+    [ "$status" -eq 1 ] && [ "$(wc -l <out)" -eq 1 ] && grep -q "^$2" out && [ ! -s err ]
+    verdict "$1" $?
+}
+
+run night "$table" "$root/examples/source-trace.words"
+[ "$status" -eq 0 ] && cmp -s out "$root/tests/host/source-trace.words.out" && [ ! -s err ]
+verdict 'a night is played as stored' $?
+night '0 1 2'
+[ "$status" -eq 0 ] && [ ! -s out ] && [ ! -s err ]
+verdict 'a night without words' $?
+mapfile -t many < <(yes '0 2560 6912 10496' | head -n 257)
+night '0 1 2' "${many[@]:1}"
+[ "$status" -eq 0 ] && [ "$(grep -c ': 1 at 50.000, 3 at 51.000, 2 at 57.000$' out)" -eq 256 ]
+verdict 'a night of 256 words' $?
+night '0 1 2' "${many[@]}"
+refused 'a night of 257 words' 'refused 7 at 0:'
+night '0 2 1' '0 1 2 3'
+refused 'a night on a trace that is not joined' 'refused 6 at 0:'
+run night cut "$root/examples/source-trace.words"
+refused 'a night on a cut file' 'refused 1 at 26:'
+night '0 1 2' '' '0 2560 6912 10496' '0 3840 8192'
+trouble 'a stamp is missing' 'line 4: not a start and a stamp for each step'
+for word in '0 x 6912 10496' '0 -1 6912 10496' '0 2560 6912 4294967296' '0 2560 6912, 10496'; do
+    night '0 1 2' "$word"
+    trouble "no word: $word" 'line 2: not a row of numbers'
+done
+night "$(yes 0 | head -n 600 | tr '\n' ' ')"
+trouble 'a line of 600 numbers' 'line 1: too long'
+run night "$table" there-is-none
+trouble 'a text that is not there' there-is-none
+run night "$table"
+trouble 'a wrong call' 'night FILE WORDS'
 
 finish

@@ -24,16 +24,18 @@ import time
 # ---------------------------------------------------------------------------------------------------------------------
 # Document 01: numbers, table file
 
-MAX_STATES, MAX_TRANSITIONS, MAX_STEPS = 32, 256, 512
+MAX_STATES, MAX_TRANSITIONS, MAX_STEPS, MAX_WORDS = 32, 256, 512, 256
 MAX_LETTER, MAX_V, MAX_D = 255, 4095, 240
 TABLE_TRACE, TABLE_STAMPS, ORDER_STAMPS = 270, 540, 270
 TURN = 1 << 32                                  # one turn of the counter
 SPLIT, TURNING, OVERTAKEN = 256, 257, 258
-JUDGE, JUDGE_TRACE, REPLAY, REWRITE, ORDER = 1, 2, 3, 4, 5
-CALLS = {JUDGE: "judge", JUDGE_TRACE: "judge_trace", REPLAY: "replay", REWRITE: "rewrite", ORDER: "order"}
+JUDGE, JUDGE_TRACE, REPLAY, REWRITE, ORDER, WORDS = 1, 2, 3, 4, 5, 6
+CALLS = {JUDGE: "judge", JUDGE_TRACE: "judge_trace", REPLAY: "replay", REWRITE: "rewrite", ORDER: "order",
+         WORDS: "replay_words"}
 BUFFERS = {JUDGE: ("file", "trace", "stamps"), JUDGE_TRACE: ("file", "trace", "stamps"),
            REPLAY: ("file", "trace", "stamps", "order", "due"), REWRITE: ("file", "out"),
-           ORDER: ("file", "trace", "stamps")}
+           ORDER: ("file", "trace", "stamps"),
+           WORDS: ("file", "trace", "starts", "stamps", "order", "due", "marks")}
 LENGTH_OF_KIND = {1: 6, 2: 16, 3: 2}
 
 FROM, INPUT, OUTPUT, TO, U, V, D = range(7)     # the seven numbers of a transition
@@ -418,7 +420,7 @@ class Want:
         if status == TURNING:
             return "turning"
         return "refused %d" % status if status else {JUDGE: "strict", JUDGE_TRACE: "steady", REPLAY: "replayed",
-                                                     REWRITE: "written", ORDER: "in order"}[call]
+                                                     REWRITE: "written", ORDER: "in order", WORDS: "replayed"}[call]
 
     def text(self):
         if self.shown is not None:
@@ -512,6 +514,43 @@ def verdict_on(call, data, table):
     return VERDICTS[call, data]
 
 
+def replay(rows, start, stamps, order, due):
+    """Document 01's replay on a trace: the answer, and what order and due hold then."""
+    n = len(rows)
+    if stamps.length != 4 * n:
+        return pack(7), order.data, due.data
+    if order.length // 2 < n or due.length // 4 < n:
+        return pack(8), order.data, due.data
+    numbers = u32s(stamps.data, n)
+    gaps = [(b - a) % TURN for a, b in zip([start] + numbers, numbers)]
+    for j, (g, r) in enumerate(zip(gaps, rows), 1):
+        if not activates([g], [r], 256):
+            return pack(9, j), order.data, due.data
+    found = responses(gaps, rows, 256)
+    return (pack(0), put(order.data, struct.pack("<%dH" % n, *(step for _, step in found))),
+            put(due.data, struct.pack("<%dI" % n, *(at for at, _ in found))))
+
+
+def replay_words(rows, starts, stamps, order, due, marks):
+    """Document 02, R-2: the answer, and what order, due and marks hold then. Each word is a single replay that is lent
+    its own places alone; its mark is the place that the single replay names, 0 or the step."""
+    n, words = len(rows), starts.length // 4
+    kept = [order.data, due.data, marks.data]
+    if starts.length % 4 or words > MAX_WORDS or stamps.length != 4 * words * n:
+        return pack(7), *kept
+    if order.length // 2 < words * n or due.length // 4 < words * n or marks.length // 2 < words:
+        return pack(8), *kept
+    orders, dues, places = [], [], []
+    for w, start in enumerate(u32s(starts.data, words)):
+        twos, fours = slice(2 * n * w, 2 * n * (w + 1)), slice(4 * n * w, 4 * n * (w + 1))
+        answer, *after = replay(rows, start, Buf(stamps.data[fours]), Buf(order.data[twos]), Buf(due.data[fours]))
+        orders.append(after[0])
+        dues.append(after[1])
+        places.append(unpack(answer)[1])
+    return (pack(0, words), put(order.data, b"".join(orders)), put(due.data, b"".join(dues)),
+            put(marks.data, struct.pack("<%dH" % words, *places)))
+
+
 def law(call, start, bufs):
     """What the documents ask of a call with these buffers."""
     want = Want(bufs)
@@ -554,21 +593,10 @@ def law(call, start, bufs):
             stamps = stamps_of(late_word(rows)) + stamps_of(early_word(rows, *pair))
             want.contents[2] = put(want.contents[2], struct.pack("<%dI" % (2 * n), *stamps))
         return want
-    if bufs[2].length != 4 * n:
-        want.answer = pack(7)
-        return want
-    if bufs[3].length // 2 < n or bufs[4].length // 4 < n:
-        want.answer = pack(8)
-        return want
-    stamps = u32s(bufs[2].data, n)
-    gaps = [(b - a) % TURN for a, b in zip([start] + stamps, stamps)]
-    for j, (g, r) in enumerate(zip(gaps, rows), 1):
-        if not activates([g], [r], 256):
-            want.answer = pack(9, j)
-            return want
-    order = responses(gaps, rows, 256)
-    want.contents[3] = put(want.contents[3], struct.pack("<%dH" % n, *(step for _, step in order)))
-    want.contents[4] = put(want.contents[4], struct.pack("<%dI" % n, *(due for due, _ in order)))
+    if call == REPLAY:
+        want.answer, *want.contents[3:] = replay(rows, start, *bufs[2:])
+    else:
+        want.answer, *want.contents[4:] = replay_words(rows, *bufs[2:])
     return want
 
 
@@ -1367,11 +1395,76 @@ def case_order_rooms(rng):
     return Case(ORDER, [data, room(rng, 270, 2), room(rng, 270, 4)])
 
 
+def word_of(rng, rows, gaps, start):
+    """The bytes of a word of stamps; one in four has gaps outside their guards."""
+    if rows and rng.randrange(4) == 0:
+        for _ in range(rng.choice((1, 1, 2))):
+            spoil_gap(rng, rows, gaps)
+    return struct.pack("<%dI" % len(gaps), *stamps_of(gaps, start))
+
+
+def random_words(rng, rows):
+    """Start stamps and words, as lists of bytes: mostly few, or as many as there may be and about 3,000 steps."""
+    most = min(MAX_WORDS + 1, 3000 // max(1, len(rows)))
+    count = min(most, rng.choice((0, 1, 1, 2, 2, 3, 5, 17, 100, 255, 256, 257)))
+    starts = [random_start(rng) for _ in range(count)]
+    if rng.randrange(4) == 0:
+        starts = starts[:1] * count
+    return ([struct.pack("<I", start) for start in starts],
+            [word_of(rng, rows, random_gaps(rng, rows), start) for start in starts])
+
+
+def spoiled_words(rng, n, starts, words):
+    """Bytes of starts and stamps that mostly don't fit the steps."""
+    starts, words = list(starts), list(words)
+    kind = rng.randrange(5)
+    if kind == 0:
+        (starts or [b""]).pop(rng.randrange(len(starts) or 1))
+    elif kind == 1:
+        (words or [b""]).pop(rng.randrange(len(words) or 1))
+    elif kind == 2:
+        starts.append(rng.randbytes(rng.choice((1, 2, 3, 4))))
+    elif kind == 3:
+        words.append(rng.randbytes(rng.choice((1, 3, 4, 4 * n))))
+    else:
+        more = rng.choice((1, 2, 257))
+        starts, words = starts + [bytes(4)] * more, words + [rng.randbytes(4 * n)] * more
+    return b"".join(starts), b"".join(words)
+
+
+def words_case(rng, faults):
+    table, trace = table_and_trace(rng)
+    rows = [table.rows[i] for i in trace]
+    n, given, data = len(trace), struct.pack("<%dH" % len(trace), *trace), write_file(table)
+    starts, words = random_words(rng, rows)
+    count = len(starts)
+    lent = [rng.randbytes(places * width + rng.choice((0, 0, 0, 0, 0, 1, width, 9, 5000)))
+            for places, width in ((count * n, 2), (count * n, 4), (count, 2))]
+    if "room" in faults:
+        lent = [room(rng, places, width) if rng.randrange(2) else old
+                for old, places, width in zip(lent, (count * n, count * n, count), (2, 4, 2))]
+    if "file" in faults:
+        data = damaged_file(rng)
+    if "trace" in faults:
+        given = spoiled_trace(rng, table, trace)
+    starts, words = spoiled_words(rng, n, starts, words) if "words" in faults else (b"".join(starts), b"".join(words))
+    return Case(WORDS, [data, given, starts, words] + lent)
+
+
+def case_words(rng):
+    return words_case(rng, ())
+
+
+def case_words_wrong(rng):
+    return words_case(rng, [f for f, weight in (("file", 8), ("trace", 4), ("words", 3), ("room", 2))
+                            if rng.randrange(weight) == 0])
+
+
 KINDS = [(case_judge, 300), (case_judge_many, 12), (case_judge_full, 6), (case_judge_heavy, 2), (case_judge_rooms, 60),
          (case_trace, 200), (case_trace_wrong, 80), (case_replay, 160), (case_replay_wrong, 160), (case_rewrite, 60),
          (case_rewrite_damaged, 160), (case_rewrite_noise, 30), (case_judge_wrapping, 12), (case_trace_wrapping, 12),
          (case_order, 140), (case_order_far, 60), (case_order_many, 8), (case_order_full, 10), (case_order_wrapping, 12),
-         (case_order_rooms, 40)]
+         (case_order_rooms, 40), (case_words, 100), (case_words_wrong, 80)]
 
 
 def random_case(seed, index):
@@ -1384,6 +1477,148 @@ def random_case(seed, index):
 
 # ---------------------------------------------------------------------------------------------------------------------
 # Fixed cases
+
+# document 01's whole case, and a loop
+WHOLE = Table(4, 0, [(0, 0, 1, 1, 5, 20, 40), (1, 0, 2, 2, 15, 20, 30), (2, 0, 3, 3, 10, 15, 10)])
+ONE = Table(1, 0, [(0, 0, 1, 0, 1, 2, 1)])
+
+
+def u16(*numbers):
+    return struct.pack("<%dH" % len(numbers), *numbers)
+
+
+def u32(*numbers):
+    return struct.pack("<%dI" % len(numbers), *numbers)
+
+
+def exactly(answer, **contents):
+    """This answer, and buffers that begin so."""
+    def check(got, after):
+        names = next(names for names in BUFFERS.values() if len(names) == len(after))
+        if got != answer:
+            return "answer %s, the document has %s" % (show(got), show(answer))
+        for name, data in contents.items():
+            if after[names.index(name)][:len(data)] != data:
+                return "%s differs from the document" % name
+        return None
+    return check
+
+
+# Document 02, R-2. A word is its start and its stamps; three are document 01's on its whole case: order 1, 3, 2, order 3, 1,
+# 2 and a first gap outside.
+FIRST, SECOND, LATE = (0, (2560, 6912, 10496)), (0, (3840, 8192, 11008)), (0, (5888, 10240, 14080))
+
+
+def from_start(start, gaps):
+    return start, stamps_of(gaps, start)
+
+
+def night(rng, name, table, trace, words, pinned=None, rooms=None):
+    """A case with these words; the rooms have the bytes that they need, or so many."""
+    steps = len(words) * len(trace)
+    rooms = rooms or (2 * steps, 4 * steps, 2 * len(words))
+    return Case(WORDS, [write_file(table), u16(*trace), u32(*(start for start, _ in words)),
+                        u32(*(stamp for _, stamps in words for stamp in stamps)), *map(rng.randbytes, rooms)],
+                name="words: " + name, pinned=pinned)
+
+
+def words_answered(rng):
+    """What each word is answered, and its mark."""
+    three = (0, 1, 2)
+    yield night(rng, "the three words of the whole case", WHOLE, three, (FIRST, SECOND, LATE),
+                exactly(pack(0, 3), order=u16(1, 3, 2, 3, 1, 2), due=u32(12800, 13056, 14592, 13568, 14080, 15872),
+                        marks=u16(0, 0, 1)))
+    for word, order in ((FIRST, (1, 3, 2)), (SECOND, (3, 1, 2))):
+        yield night(rng, "one word, order %d, %d, %d" % order, WHOLE, three, (word,),
+                    exactly(pack(0, 1), order=u16(*order), marks=u16(0)))
+    for refused in itertools.product((0, 1), repeat=3):
+        words = [LATE if now else word for now, word in zip(refused, (FIRST, SECOND, FIRST))]
+        yield night(rng, "three words with marks %d %d %d" % refused, WHOLE, three, words,
+                    exactly(pack(0, 3), marks=u16(*refused)))
+    starts = (0, 1000, TURN - 1, TURN - 6000, TURN - 13000, TURN // 2)
+    yield night(rng, "every word counts from its own start", WHOLE, three,
+                [from_start(start, (2560, 4352, 3584)) for start in starts],
+                exactly(pack(0, 6), order=u16(*(1, 3, 2) * 6), due=u32(*(12800, 13056, 14592) * 6), marks=u16(*[0] * 6)))
+    outside = list(itertools.product((0, 1), repeat=3))
+    yield night(rng, "the first of several steps outside is marked", WHOLE, three,
+                [from_start(0, [1 if out else gap for out, gap in zip(steps, (3840, 4352, 2816))]) for steps in outside],
+                exactly(pack(0, 8), marks=u16(*(steps.index(1) + 1 if 1 in steps else 0 for steps in outside))))
+    gaps = (256, 257, 300, 512, 513, 0, TURN - 1)
+    for start in (0, TURN - 300, 7):
+        yield night(rng, "guard (1,2], gaps at both ends from start %d" % start, ONE, (0,),
+                    [from_start(start, (gap,)) for gap in gaps], exactly(pack(0, 7), marks=u16(1, 0, 0, 0, 1, 1, 1)))
+    tie = Table(3, 0, [(0, 0, 1, 1, 1, 2, 10), (1, 0, 1, 2, 3, 5, 6)])
+    yield night(rng, "equal due times, and 1/256 tick apart", tie, (0, 1),
+                [from_start(5, (512, gap)) for gap in (1024, 1023, 1025)],
+                exactly(pack(0, 3), order=u16(1, 2, 2, 1, 1, 2), due=u32(3072, 3072, 3071, 3072, 3072, 3073)))
+
+
+def words_counted(rng):
+    """As many words and steps as there may be, and one more."""
+    for count in (0, 1, 2, 255, 256, 257):
+        yield night(rng, "%d words of one step" % count, ONE, (0,), [from_start(9 * w, (257 + w % 256,)) for w in range(count)],
+                    exactly(pack(0, count), order=u16(*[1] * count), due=u32(*(513 + w for w in range(count))),
+                            marks=u16(*[0] * count)) if count <= 256 else pack(7))
+    ramp, down = Table(1, 0, [(0, i, i, 0, 1, 2, 3 * i + 1) for i in range(80)]), [79 - j % 80 for j in range(513)]
+    for count in (0, 1, 2, 255, 256, 257):
+        words = [from_start(-999 * w % TURN, [257 + (j + 1) * w % 256 for j in range(512)]) for w in range(count)]
+        yield night(rng, "%d words of 512 steps" % count, ramp, down[:512], words,
+                    pack(0, count) if count <= 256 else pack(7))
+    at = [0 if w % 5 == 0 else 2 * w + 2 for w in range(256)]
+    words = [from_start(w, [256 if j == at[w] else 512 for j in range(1, 513)]) for w in range(256)]
+    yield night(rng, "256 words of 512 steps, many refused, each at another one", ramp, down[:512], words,
+                exactly(pack(0, 256), marks=u16(*at)))
+    for count in (0, 1):
+        yield night(rng, "a trace of 513 steps and %d words: 6" % count, ramp, down,
+                    [from_start(0, [300] * 513)] * count, pack(6))
+
+
+def words_lent(rng):
+    """Rooms of two words of three steps."""
+    for what, words in (("accepted", (FIRST, SECOND)), ("of which one is refused", (LATE, SECOND)), ("refused", (LATE, LATE))):
+        for rooms in ((12, 24, 4), (11, 24, 4), (10, 24, 4), (12, 23, 4), (12, 20, 4), (12, 24, 3), (12, 24, 2), (12, 24, 0),
+                      (0, 24, 4), (12, 0, 4), (0, 0, 4), (0, 0, 0), (6, 12, 4), (6, 12, 2), (13, 24, 4), (12, 25, 4),
+                      (12, 24, 5), (13, 27, 5), (14, 28, 6), (600, 900, 300)):
+            enough = all(have >= need for have, need in zip(rooms, (12, 24, 4)))
+            yield night(rng, "two words %s, with %d, %d and %d bytes of room" % (what, *rooms), WHOLE, (0, 1, 2), words,
+                        pack(0, 2) if enough else pack(8), rooms)
+    case = night(rng, "rooms of 2^32 bytes", WHOLE, (0, 1, 2), (FIRST, SECOND), pack(0, 2))
+    case.bufs[4:] = [Buf(lent.data, 1 << 32) for lent in case.bufs[4:]]
+    yield case
+
+
+def words_refused(rng):
+    """What the whole call is refused for, and in which order it is tested."""
+    file, three, words = write_file(WHOLE), u16(0, 1, 2), u32(*FIRST[1], *SECOND[1])
+
+    def case(name, number, data, trace, starts, stamps, rooms=(12, 24, 4)):
+        return Case(WORDS, [data, trace, starts, stamps, *map(rng.randbytes, rooms)], name="words: " + name, pinned=number)
+    for rooms in ((0, 0, 0), (12, 24, 4), (60, 120, 20)):
+        text = " (rooms of %d, %d and %d bytes)" % rooms
+        for starts, stamps in ((8, 23), (8, 25), (8, 20), (8, 28), (8, 12), (8, 36), (8, 0), (4, 24), (12, 24), (7, 24), (9, 24),
+                               (10, 24), (11, 24), (0, 24), (0, 12), (0, 4), (0, 1), (1, 0), (2, 0), (3, 0), (4, 0), (3, 12),
+                               (24, 8), (1028, 0), (1028, 24), (1028, 3084)):
+            yield case("3 steps, %d bytes of starts, %d of stamps: 7" % (starts, stamps) + text, pack(7), file, three,
+                       bytes(starts), (words * 200)[:stamps], rooms)
+        for name, trace in (("empty", b""), ("of one byte", b"\0"), ("of 5 bytes", three[:5]), ("of 7 bytes", three + b"\0"),
+                            ("naming transition 3 of 3", u16(0, 1, 3)), ("naming transition 65535", u16(0, 65535)),
+                            ("that is not joined", u16(0, 2)), ("backwards", u16(2, 1, 0))):
+            for count, stamps in sorted({(0, 0), (2, 8 * (len(trace) // 2)), (2, 0), (0, 12), (257, 0)}):
+                yield case("a trace %s, %d words and %d bytes of stamps: 6" % (name, count, stamps) + text, pack(6), file, trace,
+                           bytes(4 * count), words[:stamps], rooms)
+        for name, data, number in (("a cut file", file[:60], pack(1, 44)), ("a byte after the end", file + b"\0", pack(2, 66)),
+                                   ("a repeated transition", file[:26] + file[8:26] + file[26:], pack(5, 26))):
+            for starts, stamps in ((b"", b""), (bytes(8), words), (b"\0", b"\0")):
+                yield case("%s, %d bytes of starts and %d of stamps" % (name, len(starts), len(stamps)) + text, number, data,
+                           three if stamps else b"", starts, stamps, rooms)
+        yield case("no words" + text, pack(0), file, three, b"", b"", rooms)
+    for starts, stamps, text in ((1 << 16 | 2, 6, "65,538 starts"), (2, 1 << 16 | 6, "65,542 stamps")):
+        yield case("%s: 7" % text, pack(7), file, three, bytes(4 * starts), (words * 11000)[:4 * stamps])
+    yield case("128 words of 512 steps, no stamps: 7", pack(7), write_file(ONE), bytes(1024), bytes(512), b"", (0, 0, 256))
+    big = 1 << 32
+    yield case("starts of 2^32 + 8 bytes: 7", pack(7), file, three, Buf(bytes(8), big + 8), words)
+    yield case("stamps of 2^32 + 24 bytes: 7", pack(7), file, three, bytes(8), Buf(words, big + 24))
+
 
 def fixed_cases():
     rng = random.Random("fixed")
@@ -1398,12 +1633,6 @@ def fixed_cases():
     def ordered(name, table, pinned=None):
         add("order: " + name, ORDER, write_file(table), rng.randbytes(540), rng.randbytes(1080), pinned=pinned)
 
-    def u16(*numbers):
-        return struct.pack("<%dH" % len(numbers), *numbers)
-
-    def u32(*numbers):
-        return struct.pack("<%dI" % len(numbers), *numbers)
-
     def traced(name, table, trace, pinned=None):
         add(name, JUDGE_TRACE, write_file(table), u16(*trace), rng.randbytes(8 * len(trace)), pinned=pinned)
 
@@ -1413,18 +1642,6 @@ def fixed_cases():
 
     def rewritten(name, data, pinned=None):
         add(name, REWRITE, data, rng.randbytes(5000), pinned=pinned)
-
-    def exactly(answer, **contents):
-        names = {"trace": 1, "stamps": 2, "order": 3, "due": 4}
-
-        def check(got, after):
-            if got != answer:
-                return "answer %s, the document has %s" % (show(got), show(answer))
-            for name, data in contents.items():
-                if after[names[name]][:len(data)] != data:
-                    return "%s differs from the document" % name
-            return None
-        return check
 
     def showing(trace, k):
         """The one trace that can be shown, its k-th step overtaken by its last one."""
@@ -1441,7 +1658,7 @@ def fixed_cases():
     strict, steady, in_order = pack(0), pack(0), pack(0)
 
     # --- document 01: the whole case
-    whole = Table(4, 0, [(0, 0, 1, 1, 5, 20, 40), (1, 0, 2, 2, 15, 20, 30), (2, 0, 3, 3, 10, 15, 10)])
+    whole, one = WHOLE, ONE
     file = write_file(whole)
     if len(file) != 66:
         raise Disagreement("the whole case's file")
@@ -1462,7 +1679,6 @@ def fixed_cases():
         name = "second guard (3,5], D = %d: %s" % (difference, "turning" if turns else "steady")
         traced(name, two, (0, 1), pack(TURNING, 1, 2, 2) if turns else steady)
         judged(name + " (table)", two, pack(TURNING, 1, 2, 2) if turns else strict)
-    one = Table(1, 0, [(0, 0, 1, 0, 1, 2, 1)])
     replayed("start 4,294,967,000, stamp 100: gap 396", one, (0,), (100,), 4294967000,
              exactly(pack(0), order=u16(1), due=u32(396 + 256)))
     judged("a table without transitions: strict", Table(1, 0, []), strict)
@@ -1488,6 +1704,7 @@ def fixed_cases():
     add("empty file, no rooms: refused 1 at 0 (replay)", REPLAY, b"", b"", b"", b"", b"", pinned=pack(1))
     add("empty file, no rooms: refused 1 at 0 (rewrite)", REWRITE, b"", b"", pinned=pack(1))
     add("empty file, no rooms: refused 1 at 0 (order)", ORDER, b"", b"", b"", pinned=pack(1))
+    add("empty file, no rooms: refused 1 at 0 (replay_words)", WORDS, *[b""] * 7, pinned=pack(1))
 
     # --- the reader: every cut, every changed bit, every limit
     for cut in range(len(file)):
@@ -1886,6 +2103,8 @@ def fixed_cases():
         pinned=pack(OVERTAKEN, 1, 3, 3))
     add("order: a file of 2^32 + 66 bytes", ORDER, Buf(file, big + 66), rng.randbytes(540), rng.randbytes(1080),
         pinned=pack(2, 66))
+    for of_words in (words_answered, words_counted, words_lent, words_refused):
+        cases += of_words(rng)
     # what the documents have and what has a name first
     return sorted(cases, key=lambda c: c.name.startswith(("whole case cut", "whole case with bit")))
 

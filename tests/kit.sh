@@ -182,8 +182,8 @@ done
 
 # ---- Hosts ----
 
-passes 'the host in C, by pkg-config, on the shared object' "$root/tests/host.sh" --kit "$kit"
-passes 'the host in C, on the installed archive' "$root/tests/host.sh" "$kit/lib/libsandgusset.a"
+passes 'the hosts in C, by pkg-config, on the shared object' "$root/tests/host.sh" --kit "$kit"
+passes 'the hosts in C, on the installed archive' "$root/tests/host.sh" "$kit/lib/libsandgusset.a"
 
 python_lines=('turning 1 3' 'late order: 1 3 2' 'early order: 3 1 2')
 # python_host NAME LIBRARY PYTHON...: judges and replays from Python.
@@ -303,10 +303,10 @@ fi
 # The commands of its section, in a folder that looks like the checkout, with this machine's C compiler for x86-64.
 mkdir desk bin
 ln -s "$root/tools" "$root/examples" desk/
-printf '#!/bin/sh\nexec %s "$@"\n' "$cc" >bin/cc
+printf '#!/bin/sh\nexec %s "$@"\n' "$(command -v "$cc")" >bin/cc
 chmod +x bin/cc
-sed -n '/^## Link the library/,/^## What/s/^    //p' "$root/README.md" | sed "s|^\./host|$shared_runner ./host|; s|^python3|${python:-python3}|" >commands
-cp "$root/tests/host/source-trace.out" wanted
+sed -n '/^## Link the library/,/^## What/s/^    //p' "$root/README.md" | sed "s|^\./|$shared_runner ./|; s|^python3|${python:-python3}|" >commands
+cat "$root"/tests/host/source-trace{,.words}.out >wanted
 if [ -n "$python" ]; then
     printf '%s\n' "${python_lines[@]}" >>wanted
 else

@@ -25,7 +25,7 @@ REFUSALS = {
     4: "a number outside its range",
     5: "a transition equal to an earlier one",
     6: "the trace is empty, too long, not joined, or names no transition",
-    7: "the number of stamps differs from the number of steps",
+    7: "the number of stamps differs from the number of steps, or there are more than 256 words",
     8: "the lent room is too short",
     9: "a gap outside its guard",
 }

@@ -1,32 +1,29 @@
 -- The words of a night, and that each is a replay.
-use mathlib.Core.Path.{_≡_, refl, sym, ap, _∙_}
-use mathlib.Core.Logic.{inl, inr, ⊎-elim}
-use mathlib.Core.List.{List, _++_}
-use Prim.Native.Nat.{ℕ, _+_, _*_, _-_, _≤_, _<_}
-use native.Mathlib.Nat.{eq-zero-or-pos, mul-le-mul-right}
+use mathlib.Core.Path.{_≡_, refl, _∙_}
+use mathlib.Core.Logic.{inl, inr}
+use mathlib.Core.List.{List, [], _∷_, _++_}
+use Prim.Native.Nat.{ℕ, zero, suc, _+_, _*_, _-_, _≤_, _<_}
 use native.Mathlib.Omega.{arith}
 use lib.ListN.{length, getD, take, drop, set}
 use Rattle.model.specs.Answers.{Fields}
 use Rattle.model.specs.Table.{Machine, Valid}
-use Rattle.model.specs.Trace.{Handed}
 use Rattle.table.specs.declared.Table.{Table}
 use Rattle.table.specs.declared.Refusal.{Refusal}
-use Rattle.table.specs.declared.Refusal.the-variants.{NoTrace, Uneven, NoRoom, Outside}
+use Rattle.table.specs.declared.Refusal.the-variants.{Uneven, NoRoom}
 use Rattle.table.specs.declared.Checked.{Checked}
 use Rattle.table.specs.declared.Checked.the-variants as checked
 use Rattle.table.specs.Refusal.{refusedFields, checkedFields}
 use Rattle.table.specs.Rows.{machineOf}
-use Rattle.table.specs.Tests.{Test, Passes, refuses, answers, Tested, CheckOutcome}
-use Rattle.table.proofs.TestLaws.{tested-passes, tested-fails, refused-fails, passes-valid, valid-passes, valid-fails}
+use Rattle.table.specs.Tests.{Test, Passes, refuses, answers, Tested}
+use Rattle.table.proofs.TestLaws.{tested-passes, tested-fails, passes-valid, valid-passes, valid-fails}
 use Rattle.trace.specs.Named.{TraceIn}
 use Rattle.trace.proofs.TraceLaws.{trace-handed}
-use Rattle.replay.specs.declared.Replayed.the-variants as replayed
 use Rattle.replay.specs.Laid.{WordRun}
 use Rattle.replay.specs.Play as replay
 use Rattle.replay.proofs.ReplayLaws.{first, refuses-gap, plays}
 use Rattle.night.specs.declared.Words.the-variants.{Played, Refused}
-use Rattle.night.specs.Night.{wordsFields, part, Room, ownTests, wordsTests, WordPlays, AllPlay, WordsOutcome, WordsRun}
-use Rattle.night.proofs.PartLaws.{next-fits, length-part, one-word}
+use Rattle.night.specs.Night.{wordsFields, answerOf, part, Room, ownTests, wordsTests, WordPlays, WordsOutcome, WordsRun}
+use Rattle.night.proofs.PartLaws.{next-fits, length-part, set-put, one-word}
 
 -- one word more, with the places that the code lends: from `at` to `at + n`
 module _ (c trace starts stamps o₀ d₀ m₀ : List ℕ) (w at : ℕ) (o d m : List ℕ) (k : WordsRun c trace starts stamps w o₀ d₀ m₀ o d m)
@@ -47,9 +44,11 @@ module _ (c trace starts stamps o₀ d₀ m₀ : List ℕ) (w at : ℕ) (o d m :
       let fits : w * n + n ≤ length starts * n = next-fits w (length starts) n h in
       let fo : w * n + n ≤ length o = omega arith in
       let fd : w * n + n ≤ length d = omega arith in
-      rw (ea, z)
-      (one-word n (λ w mark o₀ d₀ o d. WordRun c trace (getD starts w 0) (part n w stamps) o₀ d₀ mark o d) o₀ d₀ m₀ w o d m o' d' mark k
-      fo fd (omega arith) (rw (ea, z) at so ∙ length-part n w o fo) (rw (ea, z) at sd ∙ length-part n w d fd) (rw (ea, z) at x))
+      let fm : w * 1 + 1 ≤ length m = omega arith in
+      rw (ea, z, set-put m mark w fm)
+      (one-word n n 1 (λ w o₀ d₀ o d k. (step : ℕ) × (k ≡ step ∷ []) × WordRun c trace (getD starts w 0) (part n w stamps) o₀ d₀ step o d) o₀ d₀ m₀
+      w o d m o' d' (mark ∷ []) k fo fd fm (rw (ea, z) at so ∙ length-part n w o fo) (rw (ea, z) at sd ∙ length-part n w d fd) refl
+      (mark, refl, rw (ea, z) at x))
 
 -- each way out of the tests
 module _ (t : Table) (trace starts stamps o₀ d₀ m₀ : List ℕ) where
@@ -61,13 +60,6 @@ module _ (t : Table) (trace starts stamps o₀ d₀ m₀ : List ℕ) where
 
   abbrev Told : Fields → Type 0
   Told = Tested (wordsTests m trace starts stamps o₀ d₀ m₀)
-
-  pub fails-table : {a : Checked} {r : Refusal} → a ≡ checked.Refused r → CheckOutcome m (checkedFields a) → Told (refusedFields r)
-  fails-table e x = refuses refl (refused-fails m others e x) tt
-
-  pub fails-trace : Valid m → (TraceIn (t .cells) (t .count) trace → ⊥) → Told (refusedFields NoTrace)
-  fails-trace valid n =
-      refuses refl (valid-fails m valid others 6 0 .1 (inl ((λ h. n (trace-handed t trace valid .1 h)), refl, refl))) tt
 
   -- of a valid table and a trace of it, the lengths decide
   abbrev Even : Type 0
@@ -121,32 +113,35 @@ module _ (m : Machine) (trace starts stamps o₀ d₀ m₀ : List ℕ) where
         (replay.ownTests m trace (part n w stamps) (part n w o₀) (part n w d₀))
         (p .1 .1 .1 .0, (es, ((omega arith, omega arith), tt)))
 
--- so each word is a replay
+-- a word whose places pass those tests is a replay, its mark the step that refusal 9 names
+pub word-replay : (t : Table) (trace : List ℕ) (start : ℕ) (stamps o₀ d₀ : List ℕ) → Passes (first (machineOf t) trace start stamps o₀ d₀)
+    → (mark : ℕ) {o d : List ℕ} → WordRun (t .cells) trace start stamps o₀ d₀ mark o d
+    → replay.ReplayOutcome (machineOf t) trace start stamps o₀ d₀ (replay.replayedFields (answerOf mark)) o d
+word-replay t trace start stamps o₀ d₀ q zero x = plays t trace start stamps o₀ d₀ q x refl
+word-replay t trace start stamps o₀ d₀ q (suc i) x = refuses-gap t trace start stamps o₀ d₀ q x (omega arith)
+
+pub answer-first : (mark : ℕ) → replay.replayedFields (answerOf mark) .first ≡ mark
+answer-first zero = refl
+answer-first (suc i) = refl
+
+-- so each word is one
 module _ (t : Table) (trace starts stamps o₀ d₀ m₀ : List ℕ) (p : Passes (wordsTests (machineOf t) trace starts stamps o₀ d₀ m₀)) where
   module _ {o d marks : List ℕ} (k : WordsRun (t .cells) trace starts stamps (length starts) o₀ d₀ m₀ o d marks) where
     single : (w : ℕ) → w < length starts
         → WordPlays (λ f. replay.ReplayOutcome (machineOf t) trace (getD starts w 0) (part (length trace) w stamps)
-        (part (length trace) w o₀) (part (length trace) w d₀) f (part (length trace) w o) (part (length trace) w d)) (getD marks w 0)
+        (part (length trace) w o₀) (part (length trace) w d₀) f (part (length trace) w o) (part (length trace) w d)) (λ step. part 1 w marks ≡ step ∷ [])
     single w h =
         let n : ℕ = length trace in
         let q = word-first (machineOf t) trace starts stamps o₀ d₀ m₀ p w h in
-        let s : ℕ = getD starts w 0 in
         let x = k .word w h in
-        ⊎-elim
-        (λ (e : getD marks w 0 ≡ 0). record {
-          said = replay.replayedFields replayed.Played;
-          outcome = plays t trace s (part n w stamps) (part n w o₀) (part n w d₀) q x e;
-          marked = e;
-        })
-        (λ (l : 0 < getD marks w 0). record {
-          said = replay.replayedFields (replayed.Refused (Outside (getD marks w 0)));
-          outcome = refuses-gap t trace s (part n w stamps) (part n w o₀) (part n w d₀) q x (omega arith);
-          marked = refl;
-        })
-        (eq-zero-or-pos (getD marks w 0))
+        record {
+          said = replay.replayedFields (answerOf (x .0));
+          outcome = word-replay t trace (getD starts w 0) (part n w stamps) (part n w o₀) (part n w d₀) q (x .0) (x .2);
+          marked = rw (answer-first (x .0)) (x .1);
+        }
 
     pub all-played : WordsOutcome (machineOf t) trace starts stamps o₀ d₀ m₀ (wordsFields (Played (length starts))) o d marks
     all-played = answers p (
       refl,
-      record { word = single; order-rest = k .order-rest; due-rest = k .due-rest; marks-rest = k .marks-rest; marks-count = k .marks-count },
+      record { word = single; order-rest = k .order-rest; due-rest = k .due-rest; marks-rest = k .marks-rest },
     )

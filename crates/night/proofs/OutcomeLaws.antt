@@ -1,18 +1,17 @@
 -- Two outcomes that the contract of a night allows are equal, and what is said of a word.
 use mathlib.Core.Path.{_≡_, refl, sym, ap, _∙_}
-use mathlib.Core.Logic.{_⊎_, inl, inr, dite}
-use mathlib.Core.List.{List, _++_}
-use Prim.Native.Nat.{ℕ, zero, suc, _+_, _*_, _-_, _≤_, _<_}
-use native.Mathlib.Decide.{decLt}
+use mathlib.Core.Logic.{_⊎_, inl, inr}
+use mathlib.Core.List.{List, [], _∷_, _++_}
+use Prim.Native.Nat.{ℕ, zero, suc, _+_, _*_, _≤_, _<_}
 use native.Mathlib.Omega.{arith}
 use lib.ListN.{length, getD, take, drop, take-append-drop}
-use lib.Seq.{take-add, getD-drop, ext-getD}
+use lib.Seq.{take-add}
 use Rattle.model.specs.Answers.{Fields, fields}
-use Rattle.model.specs.Table.{Machine}
+use Rattle.model.specs.Table.{Transition, Machine}
 use Rattle.model.specs.Trace.{steps}
 use Rattle.model.specs.Stamps.{gapsFrom}
 use Rattle.model.proofs.Paths.{length-steps}
-use Rattle.table.specs.Tests.{Passes, refuses, answers}
+use Rattle.table.specs.Tests.{Test, Passes, Answered, refuses, answers}
 use Rattle.table.proofs.RefusalLaws.{refusal-some, refused-only}
 use Rattle.table.proofs.TestLaws.{fails-back, answered-only}
 use Rattle.replay.specs.Play.{gapTests, ReplayOutcome}
@@ -21,7 +20,7 @@ use Rattle.replay.proofs.ReplayLaws.{first}
 use Rattle.replay.proofs.OutcomeLaws.{fields-only}
 use Rattle.night.specs.declared.Words.{Words}
 use Rattle.night.specs.declared.Words.the-variants.{Played, Refused}
-use Rattle.night.specs.Night.{wordsFields, part, wordsTests, WordPlays, AllPlay, WordsOutcome}
+use Rattle.night.specs.Night.{wordsFields, part, wordsTests, EachWord, WordPlays, WordsOutcome}
 use Rattle.night.proofs.NightLaws.{word-first}
 
 -- equal fields: equal answers
@@ -42,13 +41,38 @@ parts-only : (n words : ℕ) (l k : List ℕ) → ((w : ℕ) → w < words → p
 parts-only n words l k e r =
     sym (take-append-drop (words * n) l) ∙ rw (parts-front n words l k e, r) (take-append-drop (words * n) k)
 
-marks-only : (words : ℕ) (l k : List ℕ) → length l ≡ length k → ((w : ℕ) → w < words → getD l w 0 ≡ getD k w 0) → drop words l ≡ drop words k → l ≡ k
-marks-only words l k s e r =
-    ext-getD 0 l k s (λ i b. dite (decLt i words) (e i) (λ h.
-    let z : i ≡ words + (i - words) = omega arith in
-    rw z (sym (getD-drop words l (i - words) 0) ∙ rw r (getD-drop words k (i - words) 0))))
+-- what the words do decides all three buffers
+pub each-only : (a b c : ℕ) {Does Does' : (w : ℕ) (order₀ due₀ order due mark : List ℕ) → Type 0} (words : ℕ) (o₀ d₀ m₀ o d k o' d' k' : List ℕ)
+    → ((w : ℕ) → w < words → (x y z x' y' z' : List ℕ) → Does w (part a w o₀) (part b w d₀) x y z → Does' w (part a w o₀) (part b w d₀) x' y' z'
+    → (x ≡ x') × (y ≡ y') × (z ≡ z'))
+    → EachWord a b c Does words o₀ d₀ m₀ o d k → EachWord a b c Does' words o₀ d₀ m₀ o' d' k' → (o ≡ o') × (d ≡ d') × (k ≡ k')
+each-only a b c words o₀ d₀ m₀ o d k o' d' k' one p q = (
+  parts-only a words o o' (λ w h. same w h .0) (p .order-rest ∙ sym (q .order-rest)),
+  parts-only b words d d' (λ w h. same w h .1) (p .due-rest ∙ sym (q .due-rest)),
+  parts-only c words k k' (λ w h. same w h .2) (p .marks-rest ∙ sym (q .marks-rest)),
+)
+  where
+    same : (w : ℕ) → w < words → (part a w o ≡ part a w o') × (part b w d ≡ part b w d') × (part c w k ≡ part c w k')
+    same w h = one w h (part a w o) (part b w d) (part c w k) (part a w o') (part b w d') (part c w k') (p .word w h) (q .word w h)
+
+-- "9 is given per word": after the tests of the call no other refusal comes
+abbrev pub PlayedOr9 : ℕ → Fields → Type 0
+PlayedOr9 n f = (f ≡ fields 0 0 0 0) ⊎ ((f ≡ fields 9 (f .first) 0 0) × (1 ≤ f .first) × (f .first ≤ n))
+
+pub played-or-9 : (tests : List Test) (tr : List Transition) (gaps : List ℕ) {Done : Fields → Type 0} {Kept : Type 0} {f : Fields} → Passes tests
+    → (Done f → f ≡ fields 0 0 0 0) → Answered (tests ++ gapTests 0 tr gaps) Done Kept f → PlayedOr9 (length tr) f
+played-or-9 tests tr gaps p done (answers passes d) = inl (done d)
+played-or-9 tests tr gaps p done (refuses {n = i} {p = at} e fails kept) =
+    let r = gaps-refuse gaps 0 tr i at (fails-back tests (gapTests 0 tr gaps) i at p .0 fails) in
+    inr (rw (e, r .0) refl, rw e (omega arith), rw e (omega arith))
 
 module _ (m : Machine) (trace starts stamps o₀ d₀ m₀ : List ℕ) where
+  abbrev n : ℕ
+  n = length trace
+
+  abbrev Single : (w : ℕ) (o₀ d₀ o d mark : List ℕ) → Type 0
+  Single w o₀ d₀ o d mark = WordPlays (λ f. ReplayOutcome m trace (getD starts w 0) (part n w stamps) o₀ d₀ f o d) (λ step. mark ≡ step ∷ [])
+
   -- two outcomes that the contract allows for one input are equal, answer and all three buffers
   pub words-only : (r s : Words) (o d k o' d' k' : List ℕ) → WordsOutcome m trace starts stamps o₀ d₀ m₀ (wordsFields r) o d k
       → WordsOutcome m trace starts stamps o₀ d₀ m₀ (wordsFields s) o' d' k' → (r ≡ s) × (o ≡ o') × (d ≡ d') × (k ≡ k')
@@ -56,40 +80,21 @@ module _ (m : Machine) (trace starts stamps o₀ d₀ m₀ : List ℕ) where
       answered-only {R = (r ≡ s) × (o ≡ o') × (d ≡ d') × (k ≡ k')}
       (λ e x y. (words-said r s e, x .0 ∙ sym (y .0), x .1 ∙ sym (y .1), x .2 ∙ sym (y .2)))
       (λ x y.
-      let p : AllPlay m trace starts stamps o₀ d₀ m₀ o d k = x .1 in
-      let q : AllPlay m trace starts stamps o₀ d₀ m₀ o' d' k' = y .1 in
-      let n : ℕ = length trace in
-      let one : (w : ℕ) (h : w < length starts)
-      → (p .word w h .said ≡ q .word w h .said) × (part n w o ≡ part n w o') × (part n w d ≡ part n w d') =
-      λ w h. fields-only m trace (getD starts w 0) (part n w stamps) (part n w o₀) (part n w d₀) (part n w o) (part n w d) (part n w o') (part n w d')
-      (p .word w h .outcome) (q .word w h .outcome) in (
-        words-said r s (x .0 ∙ sym (y .0)),
-        parts-only n (length starts) o o' (λ w h. one w h .1) (p .order-rest ∙ sym (q .order-rest)),
-        parts-only n (length starts) d d' (λ w h. one w h .2) (p .due-rest ∙ sym (q .due-rest)),
-        marks-only (length starts) k k' (p .marks-count ∙ sym (q .marks-count))
-            (λ w h. p .word w h .marked ∙ ap (λ f. f .first) (one w h .0) ∙ sym (q .word w h .marked))
-            (p .marks-rest ∙ sym (q .marks-rest)),
-      ))
+      let e = each-only n n 1 (length starts) o₀ d₀ m₀ o d k o' d' k' one (x .1) (y .1) in
+      (words-said r s (x .0 ∙ sym (y .0)), e .0, e .1, e .2))
       a b
-
-  -- "9 is given per word": no other refusal comes, and the mark is 0 or names a step of the trace
-  pub word-said : Passes (wordsTests m trace starts stamps o₀ d₀ m₀) → (w mark : ℕ) (o d : List ℕ) → w < length starts
-      → (x : WordPlays (λ f. ReplayOutcome m trace (getD starts w 0) (part (length trace) w stamps)
-      (part (length trace) w o₀) (part (length trace) w d₀) f o d) mark)
-      → ((x .said ≡ fields 0 0 0 0) × (mark ≡ 0)) ⊎ ((x .said ≡ fields 9 mark 0 0) × (1 ≤ mark) × (mark ≤ length trace))
-  word-said p w mark o d h x = told (x .said) (x .outcome) (x .marked)
     where
-      n : ℕ
-      n = length trace
+      one : (w : ℕ) → w < length starts → (x y z x' y' z' : List ℕ) → Single w (part n w o₀) (part n w d₀) x y z
+          → Single w (part n w o₀) (part n w d₀) x' y' z' → (x ≡ x') × (y ≡ y') × (z ≡ z')
+      one w h x y z x' y' z' p q =
+          let e = fields-only m trace (getD starts w 0) (part n w stamps) (part n w o₀) (part n w d₀) x y x' y' (p .outcome) (q .outcome) in
+          (e .1, e .2, p .marked ∙ ap (λ (f : Fields). f .first ∷ []) (e .0) ∙ sym (q .marked))
 
-      told : (f : Fields) → ReplayOutcome m trace (getD starts w 0) (part n w stamps) (part n w o₀) (part n w d₀) f o d → mark ≡ f .first
-          → ((f ≡ fields 0 0 0 0) × (mark ≡ 0)) ⊎ ((f ≡ fields 9 mark 0 0) × (1 ≤ mark) × (mark ≤ length trace))
-      told f (answers passes done) e = inl (done .0, e ∙ ap (λ f. f .first) (done .0))
-      told f (refuses {n = i} {p = at} e' fails kept) e =
-          let q = word-first m trace starts stamps o₀ d₀ m₀ p w h in
-          let tr = steps (m .transitions) trace in
-          let g = gapsFrom (getD starts w 0) (part n w stamps) in
-          let r = gaps-refuse g 0 tr i at
-          (fails-back (first m trace (getD starts w 0) (part n w stamps) (part n w o₀) (part n w d₀)) (gapTests 0 tr g) i at q .0 fails) in
-          let a : mark ≡ at = e ∙ ap (λ f. f .first) e' in
-          inr (rw (a, ← r .0) e', omega arith, omega (arith, length-steps (m .transitions) trace))
+  -- so the mark is 0 or names a step of the trace
+  pub word-said : Passes (wordsTests m trace starts stamps o₀ d₀ m₀) → (w : ℕ) (o d : List ℕ) {Marked : ℕ → Type 0} → w < length starts
+      → (x : WordPlays (λ f. ReplayOutcome m trace (getD starts w 0) (part n w stamps) (part n w o₀) (part n w d₀) f o d) Marked)
+      → PlayedOr9 n (x .said)
+  word-said p w o d h x =
+      rw (← length-steps (m .transitions) trace)
+      (played-or-9 (first m trace (getD starts w 0) (part n w stamps) (part n w o₀) (part n w d₀)) (steps (m .transitions) trace)
+      (gapsFrom (getD starts w 0) (part n w stamps)) (word-first m trace starts stamps o₀ d₀ m₀ p w h) (λ d. d .0) (x .outcome))

@@ -1,13 +1,13 @@
 -- Words laid end to end: one word's places written, and what that leaves of the others.
 use mathlib.Core.Path.{_≡_, refl, sym, ap, _∙_}
-use mathlib.Core.List.{List, _++_}
-use Prim.Native.Nat.{ℕ, zero, suc, _+_, _*_, _-_, _≤_, _<_}
+use mathlib.Core.List.{List, [], _∷_, _++_}
+use Prim.Native.Nat.{ℕ, suc, _+_, _*_, _-_, _≤_, _<_}
 use native.Mathlib.Nat.{mul-le-mul-right}
 use native.Mathlib.Numerals.{add-one}
 use native.Mathlib.Omega.{arith}
 use borrow.Author.Count.{below-more}
-use lib.ListN.{length, getD, take, drop, set, length-set, length-drop, length-take, take-append-drop}
-use lib.Seq.{take-append-le, drop-append-le, take-at, drop-at, drop-drop, take-add, length-take-le, getD-set-other, getD-set-same, drop-set-lt}
+use lib.ListN.{length, take, drop, set, length-drop, take-append-drop}
+use lib.Seq.{take-append-le, drop-append-le, take-at, drop-at, drop-drop, length-take-le, set-split}
 use Rattle.night.specs.Night.{part, EachWord}
 
 -- the places of one word more
@@ -26,7 +26,7 @@ part-front p q n v h =
 
 -- new stands at the places of word w
 module _ (l new : List ℕ) (n w : ℕ) (fits : w * n + n ≤ length l) (size : length new ≡ n) where
-  abbrev put : List ℕ
+  abbrev pub put : List ℕ
   put = take (w * n) l ++ (new ++ drop n (drop (w * n) l))
 
   front : length (take (w * n) l) ≡ w * n
@@ -53,29 +53,30 @@ module _ (l new : List ℕ) (n w : ℕ) (fits : w * n + n ≤ length l) (size : 
 rest-more : (n w : ℕ) (l l₀ : List ℕ) → drop (w * n) l ≡ drop (w * n) l₀ → drop ((w + 1) * n) l ≡ drop ((w + 1) * n) l₀
 rest-more n w l l₀ e = rw (next-end w n, ← drop-drop n (w * n) l, ← drop-drop n (w * n) l₀) (ap (drop n) e)
 
-module _ (n : ℕ) (Does : (w mark : ℕ) (order₀ due₀ order due : List ℕ) → Type 0) (o₀ d₀ m₀ : List ℕ) where
-  pub none-words : EachWord n Does 0 o₀ d₀ m₀ o₀ d₀ m₀
-  none-words = record { word = λ w h. absurd (omega arith); order-rest = refl; due-rest = refl; marks-rest = refl; marks-count = refl }
+-- a place of the marks written is the part of its word
+pub set-put : (l : List ℕ) (x w : ℕ) (fits : w * 1 + 1 ≤ length l) → set l w x ≡ put l (x ∷ []) 1 w fits refl
+set-put l x w h = let z : w * 1 ≡ w = omega arith in rw (z, set-split l w x (omega arith), drop-drop 1 w l, add-one w) refl
 
-  module _ (w : ℕ) (o d m o' d' : List ℕ) (mark : ℕ) (k : EachWord n Does w o₀ d₀ m₀ o d m) (fo : w * n + n ≤ length o)
-      (fd : w * n + n ≤ length d) (fm : w < length m) (so : length o' ≡ n) (sd : length d' ≡ n) where
-    pub one-word : Does w mark (part n w o) (part n w d) o' d'
-        → EachWord n Does (w + 1) o₀ d₀ m₀ (put o o' n w fo so) (put d d' n w fd sd) (set m w mark)
+module _ (a b c : ℕ) (Does : (w : ℕ) (order₀ due₀ order due mark : List ℕ) → Type 0) (o₀ d₀ m₀ : List ℕ) where
+  pub none-words : EachWord a b c Does 0 o₀ d₀ m₀ o₀ d₀ m₀
+  none-words = record { word = λ w h. absurd (omega arith); order-rest = refl; due-rest = refl; marks-rest = refl }
+
+  module _ (w : ℕ) (o d m o' d' m' : List ℕ) (k : EachWord a b c Does w o₀ d₀ m₀ o d m) (fo : w * a + a ≤ length o)
+      (fd : w * b + b ≤ length d) (fm : w * c + c ≤ length m) (so : length o' ≡ a) (sd : length d' ≡ b) (sm : length m' ≡ c) where
+    pub one-word : Does w (part a w o) (part b w d) o' d' m'
+        → EachWord a b c Does (w + 1) o₀ d₀ m₀ (put o o' a w fo so) (put d d' b w fd sd) (put m m' c w fm sm)
     one-word x =
-        let eo : part n w o ≡ part n w o₀ = ap (take n) (k .order-rest) in
-        let ed : part n w d ≡ part n w d₀ = ap (take n) (k .due-rest) in
-        let os : List ℕ = put o o' n w fo so in
-        let ds : List ℕ = put d d' n w fd sd in
+        let eo : part a w o ≡ part a w o₀ = ap (take a) (k .order-rest) in
+        let ed : part b w d ≡ part b w d₀ = ap (take b) (k .due-rest) in
+        let os : List ℕ = put o o' a w fo so in
+        let ds : List ℕ = put d d' b w fd sd in
+        let ms : List ℕ = put m m' c w fm sm in
         let s : w + 1 ≡ suc w = add-one w in
         record {
-          word = below-more (λ v. Does v (getD (set m w mark) v 0) (part n v o₀) (part n v d₀) (part n v os) (part n v ds)) w
-              (λ v h. rw (getD-set-other m w v mark 0 (λ e. omega arith), put-before o o' n w fo so v h, put-before d d' n w fd sd v h) (k .word v h))
-              (rw (getD-set-same m w mark 0 fm, put-here o o' n w fo so, put-here d d' n w fd sd, ← eo, ← ed) x);
-          order-rest = put-after o o' n w fo so ∙ rest-more n w o o₀ (k .order-rest);
-          due-rest = put-after d d' n w fd sd ∙ rest-more n w d d₀ (k .due-rest);
-          marks-rest = drop-set-lt (w + 1) m w mark (omega arith) ∙ after;
-          marks-count = length-set m w mark ∙ k .marks-count;
+          word = below-more (λ v. Does v (part a v o₀) (part b v d₀) (part a v os) (part b v ds) (part c v ms)) w
+              (λ v h. rw (put-before o o' a w fo so v h, put-before d d' b w fd sd v h, put-before m m' c w fm sm v h) (k .word v h))
+              (rw (put-here o o' a w fo so, put-here d d' b w fd sd, put-here m m' c w fm sm, ← eo, ← ed) x);
+          order-rest = put-after o o' a w fo so ∙ rest-more a w o o₀ (k .order-rest);
+          due-rest = put-after d d' b w fd sd ∙ rest-more b w d d₀ (k .due-rest);
+          marks-rest = put-after m m' c w fm sm ∙ rest-more c w m m₀ (k .marks-rest);
         }
-      where
-        after : drop (w + 1) m ≡ drop (w + 1) m₀
-        after = rw (← drop-drop 1 w m, ← drop-drop 1 w m₀) (ap (drop 1) (k .marks-rest))

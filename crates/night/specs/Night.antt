@@ -1,13 +1,16 @@
 -- What a night of words answers, and what it leaves in the lent memory.
 use mathlib.Core.Path.{_≡_}
 use mathlib.Core.List.{List, [], _∷_}
-use Prim.Native.Nat.{ℕ, _*_, _≤_, _<_}
+use Prim.Native.Nat.{ℕ, zero, suc, _*_, _≤_, _<_}
 use lib.ListN.{length, getD, take, drop}
 use Rattle.model.specs.Answers.{Fields, fields}
 use Rattle.model.specs.Table.{Machine}
 use Rattle.model.specs.Trace.{Handed}
+use Rattle.table.specs.declared.Refusal.the-variants.{Outside}
 use Rattle.table.specs.Refusal.{refusedFields}
 use Rattle.table.specs.Tests.{Test, unless, Answered, afterTable}
+use Rattle.replay.specs.declared.Replayed.{Replayed}
+use Rattle.replay.specs.declared.Replayed.the-variants as replayed
 use Rattle.replay.specs.Laid.{WordRun}
 use Rattle.replay.specs.Play.{ReplayOutcome}
 use Rattle.night.specs.declared.Words.{Words}
@@ -16,6 +19,11 @@ use Rattle.night.specs.declared.Words.the-variants.{Played, Refused}
 abbrev pub wordsFields : Words → Fields
 wordsFields (Played words) = fields 0 words 0 0
 wordsFields (Refused r) = refusedFields r
+
+-- what the single replay answers of which a mark is told
+abbrev pub answerOf : ℕ → Replayed
+answerOf zero = replayed.Played
+answerOf (suc i) = replayed.Refused (Outside (suc i))
 
 -- "words laid end to end": the n places of word w, counted from 0
 abbrev pub part : ℕ → ℕ → List ℕ → List ℕ
@@ -37,25 +45,26 @@ ownTests m trace starts stamps order₀ due₀ marks₀ =
 abbrev pub wordsTests : Machine → List ℕ → List ℕ → List ℕ → List ℕ → List ℕ → List ℕ → List Test
 wordsTests m trace starts stamps order₀ due₀ marks₀ = afterTable m (ownTests m trace starts stamps order₀ due₀ marks₀)
 
--- of each of the first words what Does says, by its number, its mark and its own n places; what lies beyond them is as it was
-pub record EachWord (n : ℕ) (Does : (w mark : ℕ) (order₀ due₀ order due : List ℕ) → Type 0) (words : ℕ)
+-- of each of the first words what Does says, by its number and its own places: a in the order, b in the due times, c in the marks; what lies beyond
+-- them is as it was
+pub record EachWord (a b c : ℕ) (Does : (w : ℕ) (order₀ due₀ order due mark : List ℕ) → Type 0) (words : ℕ)
     (order₀ due₀ marks₀ order due marks : List ℕ) : Type 0 where
-  pub word : (w : ℕ) → w < words → Does w (getD marks w 0) (part n w order₀) (part n w due₀) (part n w order) (part n w due)
-  pub order-rest : drop (words * n) order ≡ drop (words * n) order₀
-  pub due-rest : drop (words * n) due ≡ drop (words * n) due₀
-  pub marks-rest : drop words marks ≡ drop words marks₀
-  pub marks-count : length marks ≡ length marks₀
+  pub word : (w : ℕ) → w < words → Does w (part a w order₀) (part b w due₀) (part a w order) (part b w due) (part c w marks)
+  pub order-rest : drop (words * a) order ≡ drop (words * a) order₀
+  pub due-rest : drop (words * b) due ≡ drop (words * b) due₀
+  pub marks-rest : drop (words * c) marks ≡ drop (words * c) marks₀
 
 -- "Answers are those of single replays"; the mark is "0, or the first step outside its guard", which refusal 9 names: it is "given per word"
-pub record WordPlays (Outcome : Fields → Type 0) (mark : ℕ) : Type 0 where
+pub record WordPlays (Outcome : Fields → Type 0) (Marked : ℕ → Type 0) : Type 0 where
   pub said : Fields
   pub outcome : Outcome said
-  pub marked : mark ≡ said .first
+  pub marked : Marked (said .first)
 
 abbrev pub AllPlay : Machine → List ℕ → List ℕ → List ℕ → List ℕ → List ℕ → List ℕ → List ℕ → List ℕ → List ℕ → Type 0
 AllPlay m trace starts stamps order₀ due₀ marks₀ order due marks =
-    EachWord (length trace)
-    (λ w mark o₀ d₀ o d. WordPlays (λ f. ReplayOutcome m trace (getD starts w 0) (part (length trace) w stamps) o₀ d₀ f o d) mark)
+    EachWord (length trace) (length trace) 1
+    (λ w o₀ d₀ o d mark.
+    WordPlays (λ f. ReplayOutcome m trace (getD starts w 0) (part (length trace) w stamps) o₀ d₀ f o d) (λ step. mark ≡ step ∷ []))
     (length starts) order₀ due₀ marks₀ order due marks
 
 abbrev pub WordsOutcome : Machine → List ℕ → List ℕ → List ℕ → List ℕ → List ℕ → List ℕ → Fields → List ℕ → List ℕ → List ℕ → Type 0
@@ -67,6 +76,7 @@ WordsOutcome m trace starts stamps order₀ due₀ marks₀ f order due marks =
 -- the first words on the transitions in the cells
 abbrev pub WordsRun : List ℕ → List ℕ → List ℕ → List ℕ → ℕ → List ℕ → List ℕ → List ℕ → List ℕ → List ℕ → List ℕ → Type 0
 WordsRun cells trace starts stamps words order₀ due₀ marks₀ order due marks =
-    EachWord (length trace)
-    (λ w mark o₀ d₀ o d. WordRun cells trace (getD starts w 0) (part (length trace) w stamps) o₀ d₀ mark o d)
+    EachWord (length trace) (length trace) 1
+    (λ w o₀ d₀ o d mark.
+    (step : ℕ) × (mark ≡ step ∷ []) × WordRun cells trace (getD starts w 0) (part (length trace) w stamps) o₀ d₀ step o d)
     words order₀ due₀ marks₀ order due marks

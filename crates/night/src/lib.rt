@@ -31,12 +31,9 @@ fn tested(
         (now (order .entry)) (now (due .entry)) (now (marks .entry)))
         (checkedFields r) ⌝ }
 {
-    let checked = table::check_parts(t.states, t.initial, t.count, &t.cells);
+    let checked = trace::tested_trace(t.states, t.initial, t.count, &t.cells, trace);
     if let Checked::Refused(r) = checked {
         return Checked::Refused(r);
-    }
-    if !trace::is_trace(&t.cells, t.count, trace) {
-        return Checked::Refused(Refusal::NoTrace);
     }
     let words = starts.len();
     if 256 < words {

@@ -166,7 +166,7 @@ module _ (m : Machine) (valid : Valid m) (trace : List ℕ) (start : ℕ) (stamp
 
 -- what the call on values answers is what is to be answered on bytes
 module _ (t : Table) (valid : Valid (machineOf t)) (trace : List ℕ) (start : ℕ) (stamps order₀ due₀ : List ℕ) where
-  answered : (answer : Replayed) (order due : List ℕ) → Called t (handedOn 2 trace) start (handedOn 4 stamps) order₀ due₀ answer order due
+  pub answered : (answer : Replayed) (order due : List ℕ) → Called t (handedOn 2 trace) start (handedOn 4 stamps) order₀ due₀ answer order due
       → ReplayOnMachine (machineOf t) trace start stamps order₀ due₀ (replayedFields answer) order due
   answered Played order due x =
       let m : Machine = machineOf t in

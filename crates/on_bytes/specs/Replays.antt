@@ -1,6 +1,6 @@
 -- What replay on bytes answers, and what it leaves in the lent memory.
 use mathlib.Core.Path.{_≡_}
-use mathlib.Core.List.{List, _∷_, _++_}
+use mathlib.Core.List.{List, [], _∷_, _++_}
 use Prim.Native.Nat.{ℕ, _*_, _%_, _/_, _≤_}
 use lib.ListN.{length, drop}
 use Rattle.model.specs.Answers.{Fields, fields}
@@ -14,13 +14,17 @@ use Rattle.replay.specs.Play.{gapTests, PlayOutcome}
 use Rattle.places.specs.OnFile.{onFile}
 use Rattle.places.specs.Places.{pathIn, traceTest}
 
+-- the tests after the file's that look at no gap
+abbrev pub sizesTests : Machine → List ℕ → List ℕ → List ℕ → List ℕ → List Test
+sizesTests m trace stamps order₀ due₀ =
+    traceTest m trace ∷
+    unless 7 ((length stamps % 4 ≡ 0) × (length stamps / 4 ≡ length trace / 2)) ∷
+    unless 8 ((length trace / 2 ≤ length order₀ / 2) × (length trace / 2 ≤ length due₀ / 4)) ∷ []
+
 -- the tests after the file's
 abbrev pub bytesTests : Machine → List ℕ → ℕ → List ℕ → List ℕ → List ℕ → List Test
 bytesTests m trace start stamps order₀ due₀ =
-    traceTest m trace ∷
-    unless 7 ((length stamps % 4 ≡ 0) × (length stamps / 4 ≡ length trace / 2)) ∷
-    unless 8 ((length trace / 2 ≤ length order₀ / 2) × (length trace / 2 ≤ length due₀ / 4)) ∷
-    gapTests 0 (pathIn m trace) (gapsFrom start (wholes 4 stamps))
+    sizesTests m trace stamps order₀ due₀ ++ gapTests 0 (pathIn m trace) (gapsFrom start (wholes 4 stamps))
 
 -- the word that stamps in bytes make on a trace
 abbrev pub wordIn : Machine → List ℕ → ℕ → List ℕ → Word

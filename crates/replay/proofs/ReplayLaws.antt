@@ -4,7 +4,7 @@ use mathlib.Core.Logic.{inl, inr}
 use mathlib.Core.List.{List}
 use Prim.Native.Nat.{ℕ, _≤_}
 use native.Mathlib.Omega.{arith}
-use lib.ListN.{length}
+use lib.ListN.{length, drop}
 use Rattle.model.specs.Answers.{Fields}
 use Rattle.model.specs.Lists.{All}
 use Rattle.model.specs.Table.{Transition, Machine, InRange, Valid}
@@ -15,16 +15,15 @@ use Rattle.model.specs.Stamps.{gapsFrom, wordFrom}
 use Rattle.model.proofs.Paths.{length-steps}
 use Rattle.table.specs.declared.Table.{Table}
 use Rattle.table.specs.declared.Refusal.{Refusal}
-use Rattle.table.specs.declared.Refusal.the-variants.{NoTrace, Uneven, NoRoom, Outside}
+use Rattle.table.specs.declared.Refusal.the-variants.{Uneven, NoRoom, Outside}
 use Rattle.table.specs.declared.Checked.{Checked}
 use Rattle.table.specs.declared.Checked.the-variants as checked
-use Rattle.table.specs.Refusal.{refusalNumber, refusalPlace, refusedFields, checkedFields}
+use Rattle.table.specs.Refusal.{refusedFields, checkedFields}
 use Rattle.table.specs.Rows.{named, machineOf}
-use Rattle.table.specs.Tests.{Test, Passes, refuses, answers, Tested, afterTable, CheckOutcome}
-use Rattle.table.proofs.TestLaws.{passes-append, fails-front, fails-back, Numbered, numbered-append, tested-passes, tested-fails}
-use Rattle.table.proofs.TestLaws.{refused-fails, passes-valid, valid-passes, valid-fails}
-use Rattle.trace.specs.Named.{TraceIn}
-use Rattle.trace.proofs.TraceLaws.{named-in, handed-ranged, trace-handed}
+use Rattle.table.specs.Tests.{Test, Passes, refuses, answers, Tested, afterTable}
+use Rattle.table.proofs.TestLaws.{passes-append, fails-back, Numbered, numbered-append, tested-passes, tested-front, passes-valid}
+use Rattle.trace.specs.Handed.{handedTests}
+use Rattle.trace.proofs.TraceLaws.{named-in, handed-ranged}
 use Rattle.replay.specs.declared.Replayed.the-variants.{Played, Refused}
 use Rattle.replay.specs.Play.{replayedFields, ownTests, gapTests, replayTests, ReplayOutcome}
 use Rattle.replay.specs.Tried.{Tried}
@@ -34,37 +33,29 @@ use Rattle.replay.proofs.GapLaws.{gaps-numbered, gaps-law}
 use Rattle.replay.proofs.LaidLaws.{plain-laid, laid, laid-converts, laid-orders, laid-dues}
 
 -- each way out of the tests that look at no gap
-module _ (t : Table) (trace stamps o₀ d₀ : List ℕ) where
-  abbrev m : Machine
-  m = machineOf t
-
+module _ (m : Machine) (trace stamps o₀ d₀ : List ℕ) where
+  -- those after the head
   abbrev others : List Test
-  others = ownTests m trace stamps o₀ d₀
+  others = drop 1 (ownTests m trace stamps o₀ d₀)
 
   abbrev Told : Fields → Type 0
-  Told = Tested (afterTable m others)
+  Told = Tested (afterTable m (ownTests m trace stamps o₀ d₀))
 
-  pub fails-table : {a : Checked} {r : Refusal} → a ≡ checked.Refused r → CheckOutcome m (checkedFields a) → Told (refusedFields r)
-  fails-table e x = refuses refl (refused-fails m others e x) tt
+  pub fails-head : {a : Checked} {r : Refusal} → a ≡ checked.Refused r → Tested (handedTests m trace) (checkedFields a) → Told (refusedFields r)
+  fails-head e x = refuses refl (tested-front (handedTests m trace) others e x) tt
 
-  pub fails-trace : Valid m → (TraceIn (t .cells) (t .count) trace → ⊥) → Told (refusedFields NoTrace)
-  fails-trace valid n =
-      refuses refl (valid-fails m valid others 6 0 .1 (inl ((λ h. n (trace-handed t trace valid .1 h)), refl, refl))) tt
-
-  -- of a valid table and a trace of it, the lengths decide
+  -- of a trace, the lengths decide
   pub record Lengths : Type 0 where
     pub uneven : (length stamps ≡ length trace → ⊥) → Told (refusedFields Uneven)
     pub cramped : length stamps ≡ length trace → ((length trace ≤ length o₀) × (length trace ≤ length d₀) → ⊥) → Told (refusedFields NoRoom)
     pub roomy : length stamps ≡ length trace → length trace ≤ length o₀ → length trace ≤ length d₀ → Told (checkedFields checked.Sound)
 
-  pub lengths : Valid m → TraceIn (t .cells) (t .count) trace → Lengths
-  lengths valid traced =
-      let handed = trace-handed t trace valid .0 traced in
-      record {
-        uneven = λ n. refuses refl (valid-fails m valid others 7 0 .1 (inr (handed, inl (n, refl, refl)))) tt;
-        cramped = λ e n. refuses refl (valid-fails m valid others 8 0 .1 (inr (handed, inr (e, inl (n, refl, refl))))) tt;
-        roomy = λ e a b. answers (valid-passes m valid others (handed, (e, ((a, b), tt)))) refl;
-      }
+  pub lengths : Passes (handedTests m trace) → Lengths
+  lengths p = record {
+    uneven = λ n. refuses refl (fails-back (handedTests m trace) others 7 0 p .1 (inl (n, refl, refl))) tt;
+    cramped = λ e n. refuses refl (fails-back (handedTests m trace) others 8 0 p .1 (inr (e, inl (n, refl, refl)))) tt;
+    roomy = λ e a b. answers (passes-append (handedTests m trace) others .1 (p, (e, ((a, b), tt)))) refl;
+  }
 
 -- the tests before the gaps', and all of them
 module _ (m : Machine) (trace : List ℕ) (start : ℕ) (stamps o₀ d₀ : List ℕ) where
@@ -80,7 +71,7 @@ module _ (m : Machine) (trace : List ℕ) (start : ℕ) (stamps o₀ d₀ : List
   -- a test before the gaps' failed
   pub refuses-first : {a : Checked} {r : Refusal} → a ≡ checked.Refused r → Tested first (checkedFields a)
       → ReplayOutcome m trace start stamps o₀ d₀ (replayedFields (Refused r)) o₀ d₀
-  refuses-first {r = r} e x = refuses refl (fails-front first last (refusalNumber r) (refusalPlace r) (tested-fails first e x)) (refl, refl)
+  refuses-first e x = refuses refl (tested-front first last e x) (refl, refl)
 
   pub passes-first : {a : Checked} → a ≡ checked.Sound → Tested first (checkedFields a) → Passes first
   passes-first e x = tested-passes first (omega arith) e x

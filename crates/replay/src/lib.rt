@@ -23,12 +23,9 @@ fn tested(t: Table, trace: &[u16], stamps: &[u32], order: &[u16], due: &[u32]) -
         (afterTable (machineOf t) (ownTests (machineOf t) (now (trace .entry)) (now (stamps .entry)) (now (order .entry)) (now (due .entry))))
         (checkedFields r) ⌝ }
 {
-    let checked = table::check_parts(t.states, t.initial, t.count, &t.cells);
+    let checked = trace::tested_trace(t.states, t.initial, t.count, &t.cells, trace);
     if let Checked::Refused(r) = checked {
         return Checked::Refused(r);
-    }
-    if !trace::is_trace(&t.cells, t.count, trace) {
-        return Checked::Refused(Refusal::NoTrace);
     }
     if stamps.len() != trace.len() {
         return Checked::Refused(Refusal::Uneven);

@@ -24,7 +24,7 @@ use Rattle.places.specs.ShownBytes.{ShownOnFile}
 use Rattle.places.specs.Places.{pathIn, traceTest}
 use Rattle.places.proofs.ReadingLaws.{of-file}
 use Rattle.sandgusset.specs.Packed.{packed, unpacked, In16Bits}
-use Rattle.sandgusset.specs.Exports.{JudgeAnswer, OrderAnswer, JudgeTraceAnswer, ReplayAnswer, RewriteAnswer}
+use Rattle.sandgusset.specs.Exports.{JudgeAnswer, OrderAnswer, JudgeTraceAnswer, ReplayAnswer, WordsAnswer, RewriteAnswer}
 use Rattle.sandgusset.proofs.PackLaws.{packed-apart}
 
 -- the number and the place of each test fit where all before it hold
@@ -92,6 +92,13 @@ replay-fits {file} {trace} {start} {stamps} x =
     )
     (λ p d. rw (d .0) (omega arith))) (x .outcome)
 
+pub words-fits : {file trace starts stamps order₀ due₀ marks₀ order due marks : List ℕ} {r : ℕ}
+    (x : WordsAnswer file trace starts stamps order₀ due₀ marks₀ r order due marks) → In16Bits (x .said)
+words-fits {file} x =
+    of-file (readFile file) _ _ (λ n p e k. reader-fits file n p e (k .0))
+    (λ m e. answered-fits (omega arith, omega arith, λ h. (omega arith, omega arith, λ i. (omega arith, omega arith, λ j. tt)))
+    (λ p d. rw (d .0) (omega (arith, p .1 .0)))) (x .outcome)
+
 pub rewrite-fits : {file out₀ out : List ℕ} {r : ℕ} → Bytes file → (x : RewriteAnswer file out₀ r out) → In16Bits (x .said)
 rewrite-fits {file} b x =
     of-file (readFile file) _ _ (λ n p e k. reader-fits file n p e (k .0))
@@ -129,6 +136,10 @@ apart {f = f} e h = ap unpacked e ∙ packed-apart f h
 pub replay-apart : {file trace : List ℕ} {start : ℕ} {stamps order₀ due₀ order due : List ℕ} {r : ℕ}
     (x : ReplayAnswer file trace start stamps order₀ due₀ r order due) → unpacked r ≡ x .said
 replay-apart x = apart (x .packs) (replay-fits x)
+
+pub words-apart : {file trace starts stamps order₀ due₀ marks₀ order due marks : List ℕ} {r : ℕ}
+    (x : WordsAnswer file trace starts stamps order₀ due₀ marks₀ r order due marks) → unpacked r ≡ x .said
+words-apart x = apart (x .packs) (words-fits x)
 
 pub rewrite-apart : {file out₀ out : List ℕ} {r : ℕ} → Bytes file → (x : RewriteAnswer file out₀ r out) → unpacked r ≡ x .said
 rewrite-apart b x = apart (x .packs) (rewrite-fits b x)

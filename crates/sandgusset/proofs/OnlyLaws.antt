@@ -17,11 +17,12 @@ use Rattle.table_order.proofs.OnlyLaws.{order-pinned, order-by}
 use Rattle.places.specs.ShownBytes.{ShownOnFile}
 use Rattle.places.proofs.ShownLaws.{bytes-is, bytes-agree, bytes-only, bytes-plain-only}
 use Rattle.on_bytes.proofs.OnlyLaws.{replay-fields-only, rewrite-fields-only}
+use Rattle.night_bytes.proofs.OnlyLaws.{words-fields-only}
 use Rattle.trace_bytes.proofs.TraceOnly.{fields-only as trace-only}
 use Rattle.verdict_bytes.proofs.TableOnly.{table-known}
 use Rattle.order_bytes.proofs.OrderOnly.{order-known}
 use Rattle.sandgusset.specs.Packed.{packed, unpacked}
-use Rattle.sandgusset.specs.Exports.{JudgeAnswer, OrderAnswer, JudgeTraceAnswer, ReplayAnswer, RewriteAnswer}
+use Rattle.sandgusset.specs.Exports.{JudgeAnswer, OrderAnswer, JudgeTraceAnswer, ReplayAnswer, WordsAnswer, RewriteAnswer}
 use Rattle.sandgusset.proofs.FitLaws.{judge-apart, order-apart}
 
 -- one answer is one number
@@ -34,6 +35,13 @@ pub replay-only : {file trace : List ℕ} {start : ℕ} {stamps order₀ due₀ 
 replay-only {file} {trace} {start} {stamps} {order₀} {due₀} {order} {due} {order'} {due'} x y =
     let e = replay-fields-only trace start stamps order₀ due₀ file (x .said) (y .said) order due order' due' (x .outcome) (y .outcome) in
     (same (x .packs) (y .packs) (e .0), e .1, e .2)
+
+pub words-only : {file trace starts stamps order₀ due₀ marks₀ order due marks order' due' marks' : List ℕ} {r s : ℕ}
+    → WordsAnswer file trace starts stamps order₀ due₀ marks₀ r order due marks → WordsAnswer file trace starts stamps order₀ due₀ marks₀ s order' due' marks'
+    → (r ≡ s) × (order ≡ order') × (due ≡ due') × (marks ≡ marks')
+words-only {file} {trace} {starts} {stamps} {order₀} {due₀} {marks₀} {order} {due} {marks} {order'} {due'} {marks'} x y =
+    let e = words-fields-only trace starts stamps order₀ due₀ marks₀ file (x .said) (y .said) order due marks order' due' marks' (x .outcome) (y .outcome) in
+    (same (x .packs) (y .packs) (e .0), e .1, e .2, e .3)
 
 pub rewrite-only : {file out₀ out out' : List ℕ} {r s : ℕ} → RewriteAnswer file out₀ r out → RewriteAnswer file out₀ s out' → (r ≡ s) × (out ≡ out')
 rewrite-only {file} {out₀} {out} {out'} x y =

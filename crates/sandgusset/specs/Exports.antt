@@ -5,6 +5,7 @@ use Prim.Native.Nat.{ℕ}
 use Rattle.model.specs.Answers.{Fields}
 use Rattle.on_bytes.specs.Replays.{ReplayBytesOutcome}
 use Rattle.on_bytes.specs.Rewrites.{RewriteBytesOutcome}
+use Rattle.night_bytes.specs.NightBytes.{WordsBytesOutcome}
 use Rattle.trace_bytes.specs.Traces.{JudgeTraceBytesOutcome}
 use Rattle.verdict_bytes.specs.Tables.{JudgeTableBytesOutcome}
 use Rattle.order_bytes.specs.Orders.{OrderBytesOutcome}
@@ -28,6 +29,11 @@ pub record JudgeTraceAnswer (file trace stamps₀ : List ℕ) (r : ℕ) (stamps 
 pub record ReplayAnswer (file trace : List ℕ) (start : ℕ) (stamps order₀ due₀ : List ℕ) (r : ℕ) (order due : List ℕ) : Type 0 where
   pub said : Fields
   pub outcome : ReplayBytesOutcome file trace start stamps order₀ due₀ said order due
+  pub packs : r ≡ packed said
+
+pub record WordsAnswer (file trace starts stamps order₀ due₀ marks₀ : List ℕ) (r : ℕ) (order due marks : List ℕ) : Type 0 where
+  pub said : Fields
+  pub outcome : WordsBytesOutcome file trace starts stamps order₀ due₀ marks₀ said order due marks
   pub packs : r ≡ packed said
 
 pub record RewriteAnswer (file out₀ : List ℕ) (r : ℕ) (out : List ℕ) : Type 0 where

@@ -1,4 +1,5 @@
 // An answer as one number.
+use night::Words;
 use replay::Replayed;
 use table::Refusal;
 use table::Written;
@@ -10,6 +11,7 @@ ghost use Rattle.model.specs.Answers.{fields};
 ghost use Rattle.table.specs.Refusal.{refusedFields};
 ghost use Rattle.table.specs.Write.{writtenFields};
 ghost use Rattle.replay.specs.Play.{replayedFields};
+ghost use Rattle.night.specs.Night.{wordsFields};
 ghost use Rattle.verdict.specs.OnTrace.{traceFields};
 ghost use Rattle.table_verdict.specs.OnTable.{tableFields};
 ghost use Rattle.table_order.specs.OnOrder.{orderFields};
@@ -69,6 +71,15 @@ pub(crate) fn replayed(a: Replayed) -> u64
     match a {
         Replayed::Played => pack(0, 0, 0, 0),
         Replayed::Refused(r) => refused(r),
+    }
+}
+
+pub(crate) fn on_words(a: Words) -> u64
+    ensures { λ r. ⌜ r ≡ packed (wordsFields a) ⌝ }
+{
+    match a {
+        Words::Played(n) => pack(0, n, 0, 0),
+        Words::Refused(r) => refused(r),
     }
 }
 

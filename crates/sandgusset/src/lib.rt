@@ -1,5 +1,5 @@
 // What a C host links (include/sandgusset.h): the byte calls, each answer packed into one number.
-ghost use Rattle.sandgusset.specs.Exports.{JudgeAnswer, OrderAnswer, JudgeTraceAnswer, ReplayAnswer, RewriteAnswer};
+ghost use Rattle.sandgusset.specs.Exports.{JudgeAnswer, OrderAnswer, JudgeTraceAnswer, ReplayAnswer, WordsAnswer, RewriteAnswer};
 
 mod answers;
 
@@ -45,6 +45,24 @@ pub extern "C" fn sandgusset_replay(
 {
     let a = on_bytes::replay_bytes(file, trace, start, stamps, order, due);
     answers::replayed(a)
+}
+
+// Replay of up to 256 timed words on one trace.
+#[no_mangle]
+pub extern "C" fn sandgusset_replay_words(
+    file: &[u8],
+    trace: &[u8],
+    starts: &[u8],
+    stamps: &[u8],
+    order: &mut [u8],
+    due: &mut [u8],
+    marks: &mut [u8],
+) -> u64
+    ensures { λ r. ⌜ WordsAnswer (now (file .entry)) (now (trace .entry)) (now (starts .entry)) (now (stamps .entry))
+        (now (order .entry)) (now (due .entry)) (now (marks .entry)) r (now (order .exit)) (now (due .exit)) (now (marks .exit)) ⌝ }
+{
+    let a = night_bytes::replay_words_bytes(file, trace, starts, stamps, order, due, marks);
+    answers::on_words(a)
 }
 
 // Reads a table file and writes it.

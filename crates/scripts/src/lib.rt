@@ -1,6 +1,7 @@
 // Cases, run: what the calls answer to the cases on standard input, printed. A case is a word whose first letter says the call, a space, a
 // name, a colon and numbers, up to the next word. What is printed is compared with a stored output, not proved.
 mod files;
+mod nights;
 mod plays;
 mod rest;
 mod text;
@@ -31,6 +32,7 @@ fn answer(name: &[u8], letter: u8, t: Table, numbers: &[u32], file: &mut [u8]) -
         b'f' => files::read_file(numbers, file),
         b'c' => files::check_value(t),
         b'p' => plays::play(t, numbers),
+        b'n' => nights::play_words(t, numbers),
         b'j' => verdicts::judge_steps(t, numbers),
         b's' => verdicts::judge_short(t, numbers),
         b'w' => verdicts::judge_whole(false, t, numbers),
@@ -71,7 +73,7 @@ fn cases(all: &[u8], file: &mut [u8], list: &mut [u32]) {
 pub fn run()
     ensures { λ _. ⊤ₛ }
 {
-    let mut all = [0u8; 32768];
+    let mut all = [0u8; 40960];
     let n = io::read_full(0, &mut all);
     let mut file = [0u8; 4700];
     let mut list = [0u32; 4096];

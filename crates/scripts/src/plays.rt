@@ -3,7 +3,7 @@ use replay::Replayed;
 use table::Table;
 
 // Of many places only the last is shown.
-fn shown_from(n: usize) -> usize {
+pub(crate) fn shown_from(n: usize) -> usize {
     if 8 < n { n - 1 } else { 0 }
 }
 
@@ -19,7 +19,7 @@ fn say_responses(order: &[u16], due: &[u32], n: usize) {
 }
 
 // What a replay of n steps answered and left.
-fn say_played(r: Replayed, order: &[u16], due: &[u32], n: usize) {
+pub(crate) fn say_played(r: Replayed, order: &[u16], due: &[u32], n: usize) {
     match r {
         Replayed::Refused(x) => {
             saying::refusal(x);

@@ -34,3 +34,12 @@ pub(crate) fn say_rest(steps: &[u16], n: usize, times: &[u32], k: usize) {
         saying::say(b", rest CHANGED\n");
     }
 }
+
+// Of three buffers: from n on in the first two, from w on in the marks.
+pub(crate) fn say_rest_marked(order: &[u16], due: &[u32], n: usize, marks: &[u16], w: usize) {
+    if kept(order, n, due, n) {
+        say_rest(marks, w, due, n);
+    } else {
+        say_rest(order, n, due, n);
+    }
+}

@@ -137,3 +137,11 @@ pub(crate) fn behind(numbers: &[u32], from: usize) -> &[u32] {
     }
     &numbers[from..]
 }
+
+// The first n numbers, or all.
+pub(crate) fn front(numbers: &[u32], n: usize) -> &[u32] {
+    if numbers.len() < n {
+        return numbers;
+    }
+    &numbers[0..n]
+}

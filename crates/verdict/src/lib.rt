@@ -20,12 +20,9 @@ pub fn judge_trace(t: Table, trace: &[u16], stamps: &mut [u32]) -> OnTrace
     ensures { λ r. ⌜ TraceOutcome (machineOf t) (now (trace .entry)) (now (stamps .entry))
         (traceFields (length (now (trace .entry))) r) (now (stamps .exit)) ⌝ }
 {
-    let checked = table::check_parts(t.states, t.initial, t.count, &t.cells);
+    let checked = trace::tested_trace(t.states, t.initial, t.count, &t.cells, trace);
     if let Checked::Refused(r) = checked {
         return OnTrace::Refused(r);
-    }
-    if !trace::is_trace(&t.cells, t.count, trace) {
-        return OnTrace::Refused(Refusal::NoTrace);
     }
     if stamps.len() < 2 * trace.len() {
         return OnTrace::Refused(Refusal::NoRoom);

@@ -18,7 +18,7 @@ abbrev μ-loop : tie.MeasureT-loop
 μ-loop cells trace starts stamps order₀ due₀ marks₀ n at₀ w₀ order due marks at w = length starts - w
 
 loop-holds : tie.Need-loop-holds Inv-loop μ-loop
-loop-holds c = (omega arith, omega arith, refl, refl, refl, none-words _ _ _ _ _)
+loop-holds c = (omega arith, omega arith, refl, refl, refl, none-words _ _ _ _ _ _ _)
 
 -- the places of the word at hand
 lent : (p : tie.In-loop Inv-loop μ-loop) → let a = p .before .before .before .before .before .before .before .before .args in let l = p .before .loop in

@@ -1,0 +1,191 @@
+use borrow.Author.Needs.{needs}
+use native.Mathlib.Omega.{arith}
+use mathlib.Core.Path.{_≡_, refl, _∙_}
+use Prim.Native.Nat.{_+_, _*_, _/_, _≤_, _-_}
+use lib.ListN.{length}
+use Rattle.night.proofs.PartLaws.{next-fits, next-end, none-words}
+use Rattle.night_bytes.specs.Runs.{Lent, WordsWritten}
+use Rattle.night_bytes.proofs.NightByteLaws.{length-back, one-written}
+use Rattle.night_bytes.proofs.play_all.Statement.{statement}
+use Rattle.night_bytes.proofs.play_all.Tie as tie
+
+abbrev Inv-loop : tie.InvT-loop
+Inv-loop cells trace starts stamps order₀ due₀ marks₀ read₀ ranked₀ times₀ words two₀ four₀ w₀ order due marks read ranked times two four w =
+    (w ≤ words) × (two ≡ w * (length trace * 2)) × (four ≡ w * (length trace * 4))
+    × (length order ≡ length order₀) × (length due ≡ length due₀) × (length marks ≡ length marks₀)
+    × (length read ≡ 512) × (length ranked ≡ 512) × (length times ≡ 512)
+    × WordsWritten cells trace starts stamps w order₀ due₀ marks₀ order due marks
+
+abbrev μ-loop : tie.MeasureT-loop
+μ-loop cells trace starts stamps order₀ due₀ marks₀ read₀ ranked₀ times₀ words two₀ four₀ w₀ order due marks read ranked times two four w = words - w
+
+loop-holds : tie.Need-loop-holds Inv-loop μ-loop
+loop-holds c = (omega arith, omega arith, omega arith, refl, refl, refl, search needs, search needs, search needs, none-words _ _ _ _ _ _ _)
+
+-- the bytes of the word at hand
+lent : (p : tie.In-loop Inv-loop μ-loop) → let a = p .before .before .before .before .before .before .before .before .args in let l = p .before .loop in
+    (l .two + length (a .trace .now) * 2 ≤ length (l .order)) × (l .four + length (a .trace .now) * 4 ≤ length (l .due))
+    × (l .four + length (a .trace .now) * 4 ≤ length (a .stamps .now))
+lent p =
+    let a = p .before .before .before .before .before .before .before .before .args in
+    let r = p .before .before .before .before .before .before .before .before .pre in
+    let w = p .before .loop .w in
+    omega (arith, next-fits w (length (a .starts .now) / 4) (length (a .trace .now) * 2) (omega arith), next-fits w (length (a .starts .now) / 4) (length (a .trace .now) * 4) (omega arith), r .order-bytes, r .due-bytes, r .stamps-bytes)
+
+mul-twos : tie.Need-mul-twos Inv-loop μ-loop
+mul-twos c = search needs
+
+add-twos : tie.Need-add-twos Inv-loop μ-loop
+add-twos c = let h = lent c in search needs
+
+mul-fours : tie.Need-mul-fours Inv-loop μ-loop
+mul-fours c = search needs
+
+add-fours : tie.Need-add-fours Inv-loop μ-loop
+add-fours c = let h = lent c in search needs
+
+mul-four : tie.Need-mul-four Inv-loop μ-loop
+mul-four c = search needs
+
+four-requires : tie.Need-four-requires Inv-loop μ-loop
+four-requires c κs = search needs
+
+sub-play-one : tie.Need-sub-play-one Inv-loop μ-loop
+sub-play-one c = search needs
+
+part-play-one-start : tie.Need-part-play-one-start Inv-loop μ-loop
+part-play-one-start c = search needs
+
+part-play-one-end : tie.Need-part-play-one-end Inv-loop μ-loop
+part-play-one-end c = let h = lent (c .before) in search needs
+
+sub-play-one-2 : tie.Need-sub-play-one-2 Inv-loop μ-loop
+sub-play-one-2 c = search needs
+
+part-play-one-start-2 : tie.Need-part-play-one-start-2 Inv-loop μ-loop
+part-play-one-start-2 c = search needs
+
+part-play-one-end-2 : tie.Need-part-play-one-end-2 Inv-loop μ-loop
+part-play-one-end-2 c = let h = lent (c .before .before) in search needs
+
+sub-play-one-3 : tie.Need-sub-play-one-3 Inv-loop μ-loop
+sub-play-one-3 c = search needs
+
+part-play-one-start-3 : tie.Need-part-play-one-start-3 Inv-loop μ-loop
+part-play-one-start-3 c = search needs
+
+part-play-one-end-3 : tie.Need-part-play-one-end-3 Inv-loop μ-loop
+part-play-one-end-3 c = let h = lent (c .before .before .before) in search needs
+
+slice-aggregate-play-one : tie.Need-slice-aggregate-play-one Inv-loop μ-loop
+slice-aggregate-play-one c = search needs
+
+slice-aggregate-play-one-2 : tie.Need-slice-aggregate-play-one-2 Inv-loop μ-loop
+slice-aggregate-play-one-2 c = search needs
+
+slice-aggregate-play-one-3 : tie.Need-slice-aggregate-play-one-3 Inv-loop μ-loop
+slice-aggregate-play-one-3 c = search needs
+
+play-one-requires : tie.Need-play-one-requires Inv-loop μ-loop
+play-one-requires c κs = search needs
+
+mul-put-twos : tie.Need-mul-put-twos Inv-loop μ-loop
+mul-put-twos c = search needs
+
+slice-aggregate-put-twos : tie.Need-slice-aggregate-put-twos Inv-loop μ-loop
+slice-aggregate-put-twos c = search needs
+
+put-twos-requires : tie.Need-put-twos-requires Inv-loop μ-loop
+put-twos-requires c κs = search needs
+
+add-w : tie.Need-add-w Inv-loop μ-loop
+add-w c =
+    let p = c .before .before .before .before .before .before .before .before .before .before .before .before .before .before .before .before .before .before .before .before in
+    let h : p .before .loop .w + 1 ≤ length (p .before .before .before .before .before .before .before .before .args .starts .now) = omega arith in
+    search needs
+
+loop-less : tie.Need-loop-less Inv-loop μ-loop
+loop-less c = search needs
+
+loop-again : tie.Need-loop-again Inv-loop μ-loop
+loop-again c =
+    let p = c .before .before .before .before .before .before .before .before .before .before .before .before in
+    let h = lent (p .before .before .before .before .before .before .before .before) in
+    let l = p .before .before .before .before .before .before .before .before .before .loop in
+    let s = p .before .before .before .before .before .before .before .before .before .before .before .before .before .before .before .before in
+    let a = s .args in
+    let r = s .pre in
+    let more : l .w + 1 ≤ length (a .starts .now) / 4 = omega (arith, p .before .before .before .before .before .before .before .before .loop-test .taken) in
+    let room : Lent (length (a .trace .now)) (length (a .starts .now) / 4) (a .stamps .now) (l .order) (l .due) (l .marks) = record {
+      most = r .most;
+      stamps-bytes = r .stamps-bytes;
+      order-bytes = omega (arith, r .order-bytes);
+      due-bytes = omega (arith, r .due-bytes);
+      marks-bytes = omega (arith, r .marks-bytes);
+    } in (
+      omega arith,
+      omega (arith, next-end (l .w) (length (a .trace .now) * 2)),
+      omega (arith, next-end (l .w) (length (a .trace .now) * 4)),
+      length-back (l .two) (length (a .trace .now) * 2) (l .order) (p .play-one .last .1 .1 .1 .1 .0) (h .0) (p .play-one .kept .1 .1 .1 .1 .0) ∙ l .inv .3,
+      length-back (l .four) (length (a .trace .now) * 4) (l .due) (p .play-one .last .1 .1 .1 .1 .1 .0) (h .1) (p .play-one .kept .1 .1 .1 .1 .1 .0) ∙ l .inv .4,
+      search needs,
+      search needs,
+      search needs,
+      search needs,
+      one-written (a .cells .now) (a .trace .now) (a .starts .now) (a .stamps .now) (a .order .now) (a .due .now) (a .marks .now)
+          (length (a .starts .now) / 4) (l .w) (l .two) (l .four) (l .order) (l .due) (l .marks) (l .inv .9) (l .inv .1) (l .inv .2) (omega arith) room
+          (p .play-one .result) (p .before .before .before .before .before .before .before .four .ensures) (p .play-one .kept .1 .1 .1 .1 .0) (p .play-one .kept .1 .1 .1 .1 .1 .0) (c .before .before .put-twos .ensures) (p .play-one .ensures),
+    )
+
+same-length : tie.Need-same-length Inv-loop μ-loop
+same-length c = search needs
+
+same-length-2 : tie.Need-same-length-2 Inv-loop μ-loop
+same-length-2 c = search needs
+
+same-length-3 : tie.Need-same-length-3 Inv-loop μ-loop
+same-length-3 c = search needs
+
+returns : tie.Need-returns Inv-loop μ-loop
+returns c =
+    let a = c .before .before .before .before .before .before .before .before .args in
+    let l = c .before .loop in
+    let e : l .w ≡ length (a .starts .now) / 4 = omega arith in
+    rw e at (l .inv .9)
+
+pub play-all-spec : {M : Type 1} → statement M
+play-all-spec =
+    tie.close
+    (tie.spec
+    Inv-loop
+    μ-loop
+    loop-holds
+    mul-twos
+    add-twos
+    mul-fours
+    add-fours
+    mul-four
+    four-requires
+    sub-play-one
+    part-play-one-start
+    part-play-one-end
+    sub-play-one-2
+    part-play-one-start-2
+    part-play-one-end-2
+    sub-play-one-3
+    part-play-one-start-3
+    part-play-one-end-3
+    slice-aggregate-play-one
+    slice-aggregate-play-one-2
+    slice-aggregate-play-one-3
+    play-one-requires
+    mul-put-twos
+    slice-aggregate-put-twos
+    put-twos-requires
+    add-w
+    loop-less
+    loop-again
+    same-length
+    same-length-2
+    same-length-3
+    returns)

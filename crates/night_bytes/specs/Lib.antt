@@ -1,0 +1,2 @@
+pub mod NightBytes
+pub mod Runs
