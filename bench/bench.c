@@ -256,7 +256,7 @@ static struct maker begin(struct work *w, unsigned states)
     return m;
 }
 
-/* Inputs are different in each state, so that nothing splits. */
+/* Inputs are different in each state, so that nothing splits; outputs are all different, so that all pairs count. */
 static void add(struct maker *m, unsigned from, unsigned to, unsigned u, unsigned v, unsigned d)
 {
     put(m->w, 16);
@@ -318,6 +318,14 @@ static void full_table(struct work *w, unsigned transitions, unsigned most, int 
         add(&m, 29, 31, 1, 2, 1);
     }
     end(&m);
+}
+
+/* One output letter for the whole table: what turned is strict. No two transitions become equal, since their inputs
+ * differ in each state. */
+static void one_letter(struct work *w)
+{
+    for (size_t at = 8; at + 18 <= w->file_len; at += 18)
+        sandgusset_put16(w->file + at, 4, 7);
 }
 
 /* A dozen transitions as one finds them on a bench. */
@@ -418,6 +426,9 @@ static void make_works(void)
                PAST_CORE);
     full_table(new_work("judge: turning, 32 states, 256 transitions", JUDGE, 1.1, SANDGUSSET_TURNING), 256, 240, 1,
                PAST_CORE);
+    full_table(w = new_work("judge: strict, one letter, 256 transitions", JUDGE, 1.3, SANDGUSSET_STRICT), 256, 240, 1,
+               PAST_CORE);
+    one_letter(w);
     everyday_table(new_work("judge: strict, everyday, 12 transitions", JUDGE, 1.3, SANDGUSSET_STRICT), 0);
     everyday_table(new_work("judge: turning, everyday, 12 transitions", JUDGE, 1.3, SANDGUSSET_TURNING), 1);
     full_table(new_work("order: in order, 32 states, 256 transitions", ORDER, 1.1, SANDGUSSET_IN_ORDER), 256, 240, 0,

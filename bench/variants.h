@@ -1,7 +1,8 @@
 /* The wrong versions that bench/sandgusset.c holds when it is compiled with -DSANDGUSSET_VARIANTS.
  * VARIANT(name, what it does wrong); the first has number 1. TWIN names a mistake of the same list that here one call
  * makes alone, all others being right: sandgusset_order, its own name being ORDER_ and that one, or
- * sandgusset_replay_words, with WORDS_. */
+ * sandgusset_replay_words, with WORDS_. LETTERS is a mistake about output letters that the verdict on a trace makes alone,
+ * with TRACE_ before its name, and the verdict on a table, with TABLE_. */
 #ifndef SANDGUSSET_VARIANTS_H
 #define SANDGUSSET_VARIANTS_H
 
@@ -21,7 +22,6 @@
     TWIN(VARIANT, UNUSED_CLEARED, "order: clears places that the result doesn't use") \
     TWIN(VARIANT, HIGHEST_SHOWN, "order: shows the highest-numbered transition that can be overtaken") \
     TWIN(VARIANT, WAY_LEFT_OUT, "order: shows a trace that begins with k, not in the initial state") \
-    TWIN(VARIANT, LIKE_OUTPUTS, "order: like outputs excuse overtaking") \
     TWIN(VARIANT, LENGTH_P_ONLY, "order: looks only at tables that have a trace of length p") \
     TWIN(VARIANT, SHORTCUT_BY_V, "order: takes d of k at most v + d of the next, for all neighbours, for enough") \
     TWIN(VARIANT, FEW_ROWS, "order: looks for lower sums up to 127 only") \
@@ -53,11 +53,29 @@
     TWIN(VARIANT, GAP_U_ACCEPTED, "words: accepts a gap of exactly u") \
     TWIN(VARIANT, GAP_V_REFUSED, "words: refuses a gap of exactly v") \
     TWIN(VARIANT, STEP_FROM_0, "words: counts steps from 0") \
+    TWIN(VARIANT, LIKE_KEPT, "words: responses with like letters keep the order of their steps") \
     TWIN(VARIANT, UNUSED_CLEARED, "words: clears places that no word uses") \
     TWIN(VARIANT, REFUSES_ALL, "words: useless: refuses everything") \
     TWIN(VARIANT, REPLAY_WRITES_NOTHING, "words: useless: writes marks alone") \
     TWIN(VARIANT, FIRST_STEP_ONLY, "words: useless: orders each word's first step and copies the rest") \
     TWIN(VARIANT, EMPTY_TABLE_READ, "words: useless: always takes the empty table")
+
+#define SANDGUSSET_LETTERS_LIST(LETTERS, VARIANT) \
+    LETTERS(VARIANT, LIKE_COUNTED, "counts pairs with like letters") \
+    LETTERS(VARIANT, BY_INPUT, "compares input letters") \
+    LETTERS(VARIANT, INPUT_TELLS, "tells like outputs apart by their inputs") \
+    LETTERS(VARIANT, BOTH_DIFFER, "counts only pairs that differ in input as well") \
+    LETTERS(VARIANT, ONE_LETTER_ONLY, "counts pairs with like letters unless one is used throughout") \
+    LETTERS(VARIANT, LEAST_PAIR, "takes the least pair, then looks at its letters") \
+    LETTERS(VARIANT, LEAST_FIRST, "takes the least first step, then looks for an end with another letter") \
+    LETTERS(VARIANT, LEAST_END, "takes the least end of each first step, then looks at its letter") \
+    LETTERS(VARIANT, LEAST_SHOWN, "shows the least pair of any letters, once a pair that differs turns") \
+    LETTERS(VARIANT, NEXT_LETTER, "compares the letters of k and of the step after it") \
+    LETTERS(VARIANT, LAST_LETTER, "compares the letters of m and of the step before it") \
+    LETTERS(VARIANT, LETTER_BETWEEN, "counts a pair with like letters if another letter comes between") \
+    LETTERS(VARIANT, SEQUENCES, "compares the sequences of letters that the two words give, not the pair's letters") \
+    LETTERS(VARIANT, SEVEN_BITS, "keeps seven bits of a letter") \
+    LETTERS(VARIANT, NO_LETTER_0, "takes letter 0 for no response")
 
 #define SANDGUSSET_VARIANT_LIST(VARIANT) \
     VARIANT(WHOLE_TICKS, "tests whole ticks only") \
@@ -113,7 +131,7 @@
     VARIANT(TOUCHING_SPLITS, "takes guards that only touch for overlapping") \
     VARIANT(SPLIT_TAKES_V_OF_I, "takes v of the first transition at the end of a split") \
     VARIANT(LIKE_ARRIVALS, "like outputs, arrivals and delays excuse a split") \
-    VARIANT(LIKE_OUTPUTS, "like outputs excuse turning") \
+    VARIANT(LIKE_OUTPUTS, "like outputs excuse a split") \
     VARIANT(LENGTH_P_ONLY, "judges only tables that have a trace of length p") \
     VARIANT(SHORTCUT_BY_V, "takes d of k at most v + d of the next, for all neighbours, for enough") \
     VARIANT(FEW_ROWS, "looks for lower sums up to 127 only") \
@@ -126,9 +144,17 @@
     VARIANT(REPLAY_WRITES_NOTHING, "useless: replay writes nothing") \
     VARIANT(FIRST_STEP_ONLY, "useless: replay orders the first step and copies the rest") \
     VARIANT(EMPTY_TABLE_READ, "useless: the reader always returns the empty table") \
+    VARIANT(LIKE_KEPT, "replay: responses with like letters keep the order of their steps") \
     VARIANT(SHORT_SUMS, "keeps 16 bits of a sum of v, in ticks") \
     VARIANT(SHORT_PARTS, "keeps 16 bits of a sum of v, in 1/256 tick") \
+    SANDGUSSET_LETTERS_LIST(SANDGUSSET_VARIANT_OF_TRACE, VARIANT) \
+    SANDGUSSET_LETTERS_LIST(SANDGUSSET_VARIANT_OF_TABLE, VARIANT) \
+    VARIANT(TABLE_QUICK_BY_LETTERS, "table: takes it for enough that no neighbour with another letter overtakes") \
+    VARIANT(TABLE_ROWS_OF_OTHERS, "table: looks as far as the least delay of letters other than the quickest one's") \
     SANDGUSSET_TWIN_LIST(SANDGUSSET_VARIANT_OF_TWIN, VARIANT) \
+    VARIANT(ORDER_LIKE_OUTPUTS, "order: like outputs excuse overtaking") \
+    VARIANT(ORDER_LOWEST_UNLIKE, "order: shows the lowest transition that another letter overtakes, if one does") \
+    VARIANT(ORDER_ROWS_BY_LETTERS, "order: looks only as far as pairs with unlike letters ask for") \
     VARIANT(ORDER_ASKS_V, "order: asks D <= V as well") \
     VARIANT(ORDER_ALWAYS_ONLY, "order: counts only pairs that always respond in reverse") \
     VARIANT(ORDER_U_FROM_K, "order: counts u of k in U") \
@@ -196,6 +222,8 @@
     VARIANT(WORDS_ACCEPTED_NAMED, "words: names the number of accepted words") \
     VARIANT(WORDS_STEPS_NAMED, "words: names the steps too")
 
+#define SANDGUSSET_VARIANT_OF_TRACE(VARIANT, name, what) VARIANT(TRACE_##name, "trace: " what)
+#define SANDGUSSET_VARIANT_OF_TABLE(VARIANT, name, what) VARIANT(TABLE_##name, "table: " what)
 #define SANDGUSSET_VARIANT_OF_TWIN(VARIANT, name, what) VARIANT(ORDER_##name, what)
 #define SANDGUSSET_VARIANT_OF_WORDS_TWIN(VARIANT, name, what) VARIANT(WORDS_##name, what)
 #define SANDGUSSET_VARIANT_NUMBER(name, what) V_##name,

@@ -2,7 +2,8 @@
 
    It reads a table file, asks for the verdict on it and shows what the verdict
    rests on. For a turning table it plays the two words it was shown and prints
-   the two orders of the responses side by side.
+   the two orders of the responses side by side. Steps K and M, which change
+   places, have different output letters; steps with like letters may do so too.
 
    Build it with the installed kit,
 
@@ -214,7 +215,7 @@ int main(int argc, char **argv)
     answer = sandgusset_judge(file, file_bytes, trace, sizeof trace, stamps, sizeof stamps);
 
     if (sandgusset_status(answer) == SANDGUSSET_STRICT) {
-        printf("strict: no word activates two traces, and every trace has one order of responses\n");
+        printf("strict: no word activates two traces, and responses that can be told apart come in one order\n");
         return HOST_JUDGED;
     }
     if (sandgusset_refused(answer)) {

@@ -60,6 +60,12 @@
  *   modulo 2^32; it fits a step if it is greater than u and at most v ticks of its transition. A response is due d
  *   ticks after its step. At equal due times the earlier step responds first. A pause longer than a full turn of the
  *   counter can't be told from a short one.
+ *
+ * ORDER
+ *   Two responses can be told apart if their output letters differ. Two steps of a trace turn if their responses can be
+ *   told apart and come in one order under some word that activates the trace, in the other under another. Responses with
+ *   like letters may change places: that makes no trace and no table turn. sandgusset_order and the replays count every
+ *   step, whatever its letter.
  */
 #ifndef SANDGUSSET_H
 #define SANDGUSSET_H
@@ -72,9 +78,9 @@ extern "C" {
 #endif
 
 /* The version: a minor one adds calls and numbers, a major one changes what a call means (CHANGELOG.md). */
-#define SANDGUSSET_VERSION "1.3.0"
-#define SANDGUSSET_VERSION_MAJOR 1
-#define SANDGUSSET_VERSION_MINOR 3
+#define SANDGUSSET_VERSION "2.0.0"
+#define SANDGUSSET_VERSION_MAJOR 2
+#define SANDGUSSET_VERSION_MINOR 0
 #define SANDGUSSET_VERSION_PATCH 0
 
 /* Values of the status field. */
@@ -121,17 +127,18 @@ extern "C" {
  *
  * Lend at least 270 trace places (540 bytes) and 540 stamp places (2,160 bytes), whatever the table is.
  *
- * strict   status 0. Nothing is written.
+ * strict   status 0. No word activates two traces from the initial state, and no two steps of such a trace turn: responses
+ *          that can be told apart come in one order. Nothing is written.
  * split    status 256; first I, second J (transition numbers, I < J), steps n. Some word activates two traces from the
  *          initial state. The first trace stands in trace places 0 to n-1 and ends in I; the second differs from it
  *          only in its last number, which is J. Stamp places 0 to n-1 hold the word, from stamp 0: the gap v at every
- *          step but the last, and there the lesser v of I and J.
+ *          step but the last, and there the lesser v of I and J. Like letters excuse no split.
  * turning  status 257; first K, second M (steps of the shown trace, counted from 1), steps n = M. Trace places 0 to n-1
- *          hold a trace from the initial state. Stamp places 0 to n-1 hold the late word, under which K responds before
- *          M; places n to 2n-1 hold the early word, under which M responds before K. Both count from stamp 0. The late
- *          word takes the gap v at every step; the early word takes u and 1/256 tick at steps K+1 to M, v elsewhere.
- *          Step K is the lowest-numbered reachable transition that can be the first of such a pair, at its first place in
- *          the shown trace.
+ *          hold a trace from the initial state in which they turn: their output letters differ. Stamp places 0 to n-1 hold
+ *          the late word, under which K responds before M; places n to 2n-1 hold the early word, under which M responds
+ *          before K. Both count from stamp 0. The late word takes the gap v at every step; the early word takes u and
+ *          1/256 tick at steps K+1 to M, v elsewhere. Step K is the lowest-numbered reachable transition that can be the
+ *          first of such a pair, at its first place in the shown trace.
  * A shown trace has at most 270 steps; which of several it is, is free. A table that is both is answered as split.
  * sandgusset_judge_trace on a shown trace may name another pair of steps: there K is the least of all. */
 uint64_t sandgusset_judge(const uint8_t *file, size_t file_len,
@@ -148,9 +155,10 @@ uint64_t sandgusset_judge(const uint8_t *file, size_t file_len,
  *            n-1 hold a trace from the initial state. Stamp places 0 to n-1 hold the early word, under which M responds
  *            before K: from stamp 0, u and 1/256 tick at steps K+1 to M, v elsewhere. Step K is the lowest-numbered
  *            reachable transition that can be overtaken, at its first place in the shown trace.
- * A shown trace has at most 270 steps; which of several it is, is free. Whether the table is split plays no part. A
- * pair that always responds in reverse counts here and does not turn; so K may be another transition than that of
- * sandgusset_judge, and a strict table may be overtaken. A table that turns is never in order. */
+ * A shown trace has at most 270 steps; which of several it is, is free. Whether the table is split plays no part. Every
+ * two steps count, like letters or not. A pair with like letters, and one that always responds in reverse, counts here
+ * and does not turn; so K may be another transition than that of sandgusset_judge, and a strict table may be overtaken.
+ * A table that turns is never in order. */
 uint64_t sandgusset_order(const uint8_t *file, size_t file_len,
                           uint8_t *trace, size_t trace_len,
                           uint8_t *stamps, size_t stamps_len);
@@ -159,10 +167,10 @@ uint64_t sandgusset_order(const uint8_t *file, size_t file_len,
  *
  * Lend two stamp places per step (8 bytes per step), whatever the trace is.
  *
- * steady   status 0. Nothing is written.
- * turning  status 257; first K, second M (least K, then least M, counted from 1), steps n, the number of steps in the trace:
- *          stamp places 0 to n-1 hold the late word and places n to 2n-1 the early word, both from stamp 0 and made as
- *          above. */
+ * steady   status 0. No two steps turn: responses that can be told apart come in one order. Nothing is written.
+ * turning  status 257; first K, second M (of all pairs that turn the least K, then the least M, counted from 1), steps n, the
+ *          number of steps in the trace: stamp places 0 to n-1 hold the late word and places n to 2n-1 the early word, both
+ *          from stamp 0 and made as above. */
 uint64_t sandgusset_judge_trace(const uint8_t *file, size_t file_len,
                                 const uint8_t *trace, size_t trace_len,
                                 uint8_t *stamps, size_t stamps_len);
@@ -239,7 +247,7 @@ static inline const char *sandgusset_text(unsigned status)
     case SANDGUSSET_NO_ROOM: return "the lent room is too short";
     case SANDGUSSET_BAD_GAP: return "a gap outside its guard";
     case SANDGUSSET_SPLIT: return "split: two transitions are open to one input at one time";
-    case SANDGUSSET_TURNING: return "turning: two steps respond in either order";
+    case SANDGUSSET_TURNING: return "turning: two responses that can be told apart come in either order";
     case SANDGUSSET_OVERTAKEN: return "overtaken: a step can respond before an earlier one";
     default: return "unknown";
     }

@@ -27,7 +27,7 @@ says() {
 
 # ---- In words ----
 
-for name in source-trace download-wide split touching; do
+for name in source-trace download-wide split touching map-kept; do
     run --explain "$root/examples/$name.table"
     cmp -s out "$root/tests/desk/$name.out" && [ ! -s err ]
     verdict "explained as stored: $name" $?
@@ -69,6 +69,33 @@ run --explain <<<'states 4 initial 0
 [ "$status" -eq 0 ] && says '^strict$' '3 transitions, 2 of 4 states can be reached' "can't be reached, and were not judged" \
     'transition 1, line 4:  2 -> 1' 'transition 2, line 5:  3 -> 3' && ! grep -q 'transition 0' out
 verdict 'explained: strict, and what is not reached' $?
+# Like letters: a letter with two names, a table file, which are told apart by their numbers; and none that change places.
+two_names='output old 7
+output new 7
+states 3 initial 0
+0 -> 1 input 0 output old (1,2] delay 15
+1 -> 2 input 1 output new (3,5] delay 10'
+run --explain <<<"$two_names"
+[ "$status" -eq 0 ] && says '^strict$' 'steps 1 and 2 of one trace, both with output 7, by its names old and new:$' 'step 1  transition 0, line 4' \
+    'that is 3 < 5 <= 5: these two come in either order' && ! grep -qi '^turning' out
+verdict 'explained: strict, though like letters change places' $?
+run --explain "$root/examples/map-kept.bin"
+[ "$status" -eq 0 ] && says '^strict$' 'steps 2 and 3 of one trace, both with output 13:$' 'step 3  transition 4:  2 -> 0'
+verdict 'explained: like letters of a table file' $?
+sed 's/delay 15/delay 16/' <<<"$two_names" | run --explain
+[ "$status" -eq 0 ] && says '^strict$' '^Responses with like output letters come in one order too\.$'
+verdict 'explained: like letters that are always reversed' $?
+sed '2s/7/8/' <<<"$two_names" | run --explain
+[ "$status" -eq 1 ] && says '^turning 1 2$' 'step 2 responds first,$' 'output new; with 5 ticks or more step 1 does, output old' && ! grep -q 'ike' out
+verdict 'explained: the same with two letters' $?
+full_table() {
+    echo 'states 2 initial 0'
+    for letter in $(seq 0 254); do echo "0 -> 0 input $letter output 0 (1,2] delay 3"; done
+    echo "0 -> 1 input 255 output 0 (1,2] delay 1"
+}
+full_table | run --explain
+[ "$status" -eq 0 ] && says '^strict$' 'steps 1 and 2 of one trace, both with output 0:$' 'step 2  transition 255, line 257'
+verdict 'explained: as many letters as transitions' $?
 bytes 0600 0100 0400 0000 0200 | run --explain
 [ "$status" -eq 2 ] && says '^refused 1 at 8$' '^standard input: at byte 8: fewer than four bytes left' '^The rule: A table file is'
 verdict 'explained: refused' $?
@@ -80,7 +107,7 @@ run --explain <<<'states 2 initial nowhere'
 verdict 'explained: a text without a file' $?
 
 # The same for --order.
-for name in flow-change download-narrow; do
+for name in flow-change download-narrow map-kept; do
     run --order --explain "$root/examples/$name.table"
     cmp -s out "$root/tests/desk/$name-order.out" && [ ! -s err ]
     verdict "order, explained as stored: $name" $?
@@ -104,6 +131,13 @@ run --order --explain <ring
 says '^overtaken 1 32$' '^  \.\. 19 more \.\.$' 'U < D, that is 31 < 32' '\.\.28\.\.  |31  |32\*' '28 of 32 steps are not drawn' &&
     awk 'length > 130 { bad = 1 } END { exit bad }' out
 verdict 'order, explained: a long witness is shortened with a count' $?
+run --order --explain <<<"$two_names"
+[ "$status" -eq 1 ] && says '^overtaken 1 2$' 'So this pair comes in either order\.$' 'Both have output 7, by its names old and new\. Like letters' &&
+    ! grep -q 'pair turns' out
+verdict 'order, explained: like letters count' $?
+sed 's/delay 15/delay 16/' <<<"$two_names" | run --order --explain
+[ "$status" -eq 1 ] && says '^overtaken 1 2$' 'always reversed, and does not turn\.$' 'in the order of the requests they count\.$'
+verdict 'order, explained: like letters that are always reversed' $?
 run --order --explain <<<'states 3 initial 0
 0 -> 1 input 0 output 1 (1,2] delay 13
 1 -> 2 input 0 output 2 (3,5] delay 10'
@@ -186,6 +220,9 @@ verdict 'widths: lines of three numbers' $?
 run --widths --explain "$root/examples/download-narrow.table"
 cmp -s out "$root/tests/desk/download-narrow-widths.out" && [ "$status" -eq 0 ]
 verdict 'widths: explained as stored' $?
+run --widths "$root/examples/map-kept.table"
+printf '%s\n' '0 56 4095' '1 1 4095' '2 1 4095' '3 1 4095' '4 1 4095' '5 55 4095' | cmp -s - out && [ "$status" -eq 0 ]
+verdict 'widths: like letters stop no end' $?
 run --widths "$root/examples/source-trace.table"
 [ "$status" -eq 1 ] && head -n 1 out | grep -qx 'turning 1 3' && grep -q 'must be strict first' err
 verdict 'widths: a table that turns' $?
@@ -249,6 +286,10 @@ run --widths --page page.html "$root/examples/download-narrow.table"
 [ "$status" -eq 0 ] && [ "$(wc -l <out)" -eq 8 ] && well_formed page.html && ! grep -q '<svg' page.html && grep -q 'greatest v' page.html &&
     grep -q 'at 54 turning' page.html
 verdict 'page: strict, with widths' $?
+run --page page.html "$root/examples/map-kept.table"
+[ "$status" -eq 0 ] && [ "$(cat out)" = strict ] && well_formed page.html && ! grep -q '<svg' page.html && grep -q '<h1>Strict: .*told apart' page.html &&
+    grep -q 'both with output map_kept' page.html
+verdict 'page: strict, though like letters change places' $?
 run --page page.html <<<'states 2 initial 2'
 [ "$status" -eq 2 ] && well_formed page.html && grep -q 'the states are 0 to 1' page.html
 verdict 'page: refused' $?

@@ -45,6 +45,8 @@ static void try_texts(void)
     verdict("0 is done", strcmp(sandgusset_text(0), "done") == 0);
     verdict("other numbers are unknown", !known(255) && !known(259) && !known(65535) && !known(65536 + 1));
     verdict("a refusal's number goes with its text", strcmp(sandgusset_text(3), "more than 256 transitions") == 0);
+    verdict("turning is a matter of responses that can be told apart",
+            strstr(sandgusset_text(SANDGUSSET_TURNING), "can be told apart") != NULL);
 }
 
 static void try_version(void)

@@ -33,7 +33,7 @@ trouble() {
     verdict "$1" $?
 }
 
-for name in source-trace download-wide download-narrow split touching; do
+for name in source-trace download-wide download-narrow split touching map-kept; do
     run host "$root/examples/$name.bin"
     [ "$status" -eq 0 ] && cmp -s out "$root/tests/host/$name.out"
     verdict "$name is judged and played as stored" $?

@@ -122,22 +122,26 @@ def responses(gaps, rows, q):
     return sorted((at + r[D] * q, j) for j, (at, r) in enumerate(zip(arrival, rows), 1))
 
 
+def told_apart(a, b):
+    """Document 02, R-3: the order of two steps counts exactly if their output letters differ."""
+    return a[OUTPUT] != b[OUTPUT]
+
+
 def turning_pair(rows):
-    """Least k, then least m, with U < D <= V; or None."""
+    """Least k, then least m, with U < D <= V and unlike output letters; or None."""
     us = [0] + list(itertools.accumulate(r[U] for r in rows))
     vs = [0] + list(itertools.accumulate(r[V] for r in rows))
-    ds = [0] + [r[D] for r in rows]
-    for k in range(1, len(rows)):
-        for m in range(k + 1, len(rows) + 1):
-            if us[m] - us[k] < ds[k] - ds[m] <= vs[m] - vs[k]:
+    for k, first in enumerate(rows, 1):
+        for m, last in enumerate(rows[k:], k + 1):
+            if us[m] - us[k] < first[D] - last[D] <= vs[m] - vs[k] and told_apart(first, last):
                 return k, m
     return None
 
 
 def turning_pair_by_words(rows):
-    """The same by trying words: every gap of n parts of a tick, n being the number of steps. None if there are too
-    many words, else (pair or None,). A finer cut than n can't show more: the sum of at most n - 1 added parts stays
-    below a tick."""
+    """The same by the sentence itself: two words order two steps with unlike letters in opposite ways. Every gap of n parts
+    of a tick is tried, n being the number of steps. None if there are too many words, else (pair or None,). A finer cut
+    than n can't show more: the sum of at most n - 1 added parts stays below a tick."""
     n = len(rows)
     count = 1
     for r in rows:
@@ -149,7 +153,8 @@ def turning_pair_by_words(rows):
         order = [step for _, step in responses(gaps, rows, n)]
         place = {step: i for i, step in enumerate(order)}
         for k, m in itertools.combinations(range(1, n + 1), 2):
-            (before if place[k] < place[m] else after).add((k, m))
+            if told_apart(rows[k - 1], rows[m - 1]):
+                (before if place[k] < place[m] else after).add((k, m))
     both = sorted(before & after)
     return (both[0] if both else None,)
 
@@ -236,32 +241,31 @@ class Walks:
             self.at.append([a | b for a, b in zip(self.at[-1], row)])
 
 
-def find_by_sets(table, upper):
-    """The lowest-numbered reachable transition that can be step k of a pair with U < D, and with D <= V if `upper` asks
-    for it (a turning pair); or None."""
-    if not table.rows:
-        return None
+def find_by_sets(table, turning):
+    """The lowest-numbered reachable transition that can be step k of a pair with U < D and, if `turning` asks for it, with
+    D <= V and unlike output letters; or None."""
     reach = reachable(table)
     leaving = [[(r[U], min(r[V], CAP), r[TO]) for r in table.rows if r[FROM] == s] for s in range(table.states)]
-    least = min(r[D] for r in table.rows)
+    least = min((r[D] for r in table.rows), default=0)
     walks = {}
     for k, first in enumerate(table.rows):
         if first[FROM] not in reach:
             continue
         start = first[TO]
-        if start not in walks:
-            most = max(r[D] for r in table.rows if r[TO] == start and r[FROM] in reach) - least
-            walks[start] = Walks(table, leaving, start, most)
-        at = walks[start].at
         for last in table.rows:
             difference = first[D] - last[D]
             room = difference - 1 - last[U]     # U < D: the walk before m has at most this sum of u
-            if room >= 0 and at[room][last[FROM]] >> (max(0, difference - last[V]) if upper else 0):
+            if room < 0 or turning and not told_apart(first, last):
+                continue
+            if start not in walks:
+                most = max(r[D] for r in table.rows if r[TO] == start and r[FROM] in reach) - least
+                walks[start] = Walks(table, leaving, start, most).at
+            if walks[start][room][last[FROM]] >> (max(0, difference - last[V]) if turning else 0):
                 return k
     return None
 
 
-def find_by_traces(table, upper):
+def find_by_traces(table, turning):
     """The same by going through all walks one by one. None if there are too many, else (k or None,)."""
     reach = reachable(table)
     leaving = [[r for r in table.rows if r[FROM] == s] for s in range(table.states)]
@@ -276,7 +280,8 @@ def find_by_traces(table, upper):
                 budget -= 1
                 if budget < 0:
                     return None
-                if us + r[U] < first[D] - r[D] and (not upper or first[D] - r[D] <= vs + r[V]):
+                difference = first[D] - r[D]
+                if us + r[U] < difference and not (turning and (difference > vs + r[V] or not told_apart(first, r))):
                     return (k,)
                 if us + r[U] < MAX_D:
                     todo.append((r[TO], us + r[U], vs + r[V]))
@@ -483,6 +488,8 @@ def check_witness(table, verdict, answer, old, new):
             return "step K is transition %d, wanted the lowest that is %s, %d" % (numbers[k - 1], *verdict)
         if numbers.index(verdict[1]) != k - 1:
             return "K is not the first place of transition %d" % verdict[1]
+        if verdict[0] == "turning" and not told_apart(rows[k - 1], rows[m - 1]):
+            return "steps K and M have like letters"
         words = [("early", early_word(rows, k, m), m, k)]
         if verdict[0] == "turning":
             words.insert(0, ("late", late_word(rows), k, m))
@@ -732,14 +739,24 @@ def try_case(driver, case, rng):
 # ---------------------------------------------------------------------------------------------------------------------
 # Random tables
 
+def outputs(rng):
+    """The output letters of a table: one throughout, two that differ in a bit, few that are often alike, or any."""
+    one, bit = rng.randrange(256), 1 << rng.randrange(8)
+    return rng.choice(((one,), (one, one ^ bit), (one, one ^ bit), (0, 1, 2), (0, 1, 2, one), (0, 0, 0, 1), range(256),
+                       range(256)))
+
+
 def finish(rng, states, initial, rows, inputs="apart", shuffle=None):
-    """Gives letters, numbers the transitions, leaves no two equal. Rows are [from, to, u, v, d] or whole rows."""
-    whole = []
+    """Gives letters, numbers the transitions, leaves no two equal. Rows are [from, to, u, v, d] or whole rows, of which
+    input and output may be None."""
+    whole, letters = [], outputs(rng)
     for r in rows:
         if len(r) == 5:
             a, b, u, v, d = r
-            r = [a, None, rng.choice((0, 1, 2, rng.randrange(256))), b, u, v, d]
+            r = [a, None, None, b, u, v, d]
         whole.append(list(r))
+        if whole[-1][OUTPUT] is None:
+            whole[-1][OUTPUT] = rng.choice(letters)
     if shuffle if shuffle is not None else rng.randrange(2):
         rng.shuffle(whole)
     whole = whole[:MAX_TRANSITIONS]
@@ -1086,8 +1103,29 @@ def shape_far(rng):
     return renamed(rng, finish(rng, hidden + 1, 0, rows, rng.choice(("apart", "any", "few")), rng.randrange(3) == 0))
 
 
+def shape_alike(rng):
+    """A chain on which most pairs turn or nearly so, with two letters: the first steps are alike, and so are the least
+    pairs. Beside some steps there is one with the other letter, or with another delay."""
+    length, alike = rng.randint(2, 9), rng.randint(1, 6)
+    letters, d, rows = rng.sample(range(256), 2), rng.randint(60, 240), []
+    for s in range(length):
+        u, v = guard_of(rng, 3, rng.choice((2, 4, 9)))
+        d = clip(d - rng.choice((u, u + 1, v, v + 1, (u + v + 1) // 2)))
+        letter = letters[0] if s < alike else rng.choice(letters)
+        rows.append([s, None, letter, s + 1, u, v, d])
+        if rng.randrange(3) == 0:
+            more = rng.choice((0, 0, 1, -1))
+            rows.append([s, None, letters[letter == letters[0]] if more == 0 else letter, s + 1, u, v, clip(d + more)])
+    if rng.randrange(3) == 0:
+        rows.append([length, None, rng.choice(letters), rng.randrange(length), *guard_of(rng, 9, 9), rng.randint(1, 240)])
+    table = finish(rng, length + 1, 0 if rng.randrange(4) else rng.randrange(length), rows,
+                   rng.choice(("apart", "apart", "apart", "few")), rng.randrange(3) == 0)
+    return renamed(rng, table) if rng.randrange(2) else table
+
+
 SMALL = (shape_tiny, shape_tiny, shape_tiny, shape_pair, shape_pair, shape_pair, shape_ways, shape_ways, shape_ways,
-         shape_steady, shape_steady, shape_dense, shape_chain, shape_touching, shape_wide, shape_loop)
+         shape_steady, shape_steady, shape_dense, shape_chain, shape_touching, shape_wide, shape_loop, shape_alike,
+         shape_alike)
 
 
 def any_table(rng):
@@ -1125,7 +1163,7 @@ def table_for_trace(rng):
     rows = []
     for j, (u, v) in enumerate(guards, 1):
         d = dk if j == k else dm if j == m else middle if middle is not None else rng.randint(1, 240)
-        rows.append([j % states, None, j % 256, (j + 1) % states, u, v, d])
+        rows.append([j % states, (j + 1) % states, u, v, d])
     table = finish(rng, states, rng.randrange(states), rows, rng.choice(("apart", "any")), shuffle=False)
     return table, list(range(min(n, len(table.rows))))
 
@@ -1478,9 +1516,16 @@ def random_case(seed, index):
 # ---------------------------------------------------------------------------------------------------------------------
 # Fixed cases
 
-# document 01's whole case, and a loop
+# document 01's whole case, its dead end, its loop with a pair of 121 steps; and a loop
 WHOLE = Table(4, 0, [(0, 0, 1, 1, 5, 20, 40), (1, 0, 2, 2, 15, 20, 30), (2, 0, 3, 3, 10, 15, 10)])
+DEAD_END = Table(3, 0, [(0, 0, 1, 1, 1, 2, 9), (1, 0, 2, 2, 3, 4, 5)])
+LONG_LOOP = Table(3, 0, [(0, 1, 1, 1, 1, 2, 240), (1, 1, 2, 1, 1, 2, 240), (1, 2, 3, 2, 1, 2, 1)])
 ONE = Table(1, 0, [(0, 0, 1, 0, 1, 2, 1)])
+
+
+def two_steps(difference):
+    """Document 01's two steps, the second with guard (3,5]."""
+    return Table(3, 0, [(0, 0, 1, 1, 2, 7, 20 + difference), (1, 0, 2, 2, 3, 5, 20)])
 
 
 def u16(*numbers):
@@ -1502,6 +1547,34 @@ def exactly(answer, **contents):
                 return "%s differs from the document" % name
         return None
     return check
+
+
+def showing(trace, k, status=OVERTAKEN):
+    """The one trace that can be shown, with a pair of its k-th step and its last one."""
+    return exactly(pack(status, k, len(trace), len(trace)), trace=u16(*trace))
+
+
+def by(first, last=None):
+    """Which transitions the shown pair has."""
+    def check(answer, after):
+        _, k, _, steps = unpack(answer)
+        trace = u16s(after[1], steps)
+        return None if trace[k - 1] == first and last in (None, trace[-1]) else "not the pair that was expected"
+    return check
+
+
+def table_case(rng, name, table, pinned=None, call=JUDGE):
+    stamps = {JUDGE: TABLE_STAMPS, ORDER: ORDER_STAMPS}[call]
+    return Case(call, [write_file(table), rng.randbytes(2 * TABLE_TRACE), rng.randbytes(4 * stamps)], 0, name, pinned)
+
+
+def trace_case(rng, name, table, trace, pinned=None):
+    return Case(JUDGE_TRACE, [write_file(table), u16(*trace), rng.randbytes(8 * len(trace))], 0, name, pinned)
+
+
+def played_case(rng, name, table, trace, stamps, start=0, pinned=None):
+    return Case(REPLAY, [write_file(table), u16(*trace), u32(*stamps), rng.randbytes(2 * len(trace)),
+                         rng.randbytes(4 * len(trace))], start, name, pinned)
 
 
 # Document 02, R-2. A word is its start and its stamps; three are document 01's on its whole case: order 1, 3, 2, order 3, 1,
@@ -1620,6 +1693,189 @@ def words_refused(rng):
     yield case("stamps of 2^32 + 24 bytes: 7", pack(7), file, three, bytes(8), Buf(words, big + 24))
 
 
+# Document 02, R-3. Letters are written 1 and 2, or a and b: the same places of a table with them in all ways.
+
+def lettered(table, *letters):
+    """The same table with these output letters, the last one to its end."""
+    letters = letters + letters[-1:] * len(table.rows)
+    return Table(table.states, table.initial, [r[:OUTPUT] + (o,) + r[TO:] for r, o in zip(table.rows, letters)])
+
+
+def chain_of(*steps):
+    """A chain of steps (u, v, d), all with input 0."""
+    return Table(len(steps) + 1, 0, [(s, 0, 0, s + 1, *step) for s, step in enumerate(steps)])
+
+
+def backwards(table):
+    """The same table with its transitions numbered backwards."""
+    return Table(table.states, table.initial, table.rows[::-1])
+
+
+def turning_in(trace, k):
+    return showing(trace, k, TURNING)
+
+
+def both_verdicts(rng, name, table, trace, pair):
+    """A trace and the table that has no other one, with this pair or None."""
+    yield trace_case(rng, "letters: %s" % name, table, trace, pack(TURNING, *pair, len(trace)) if pair else pack(0))
+    yield table_case(rng, "letters: %s (table)" % name, table,
+                     turning_in(trace[:pair[1]], pair[0]) if pair else pack(0))
+
+
+def letters_throughout(rng):
+    """Document 01's turning cases with one letter throughout: steady, strict, still overtaken. (As they stand they are the
+    first fixed cases.)"""
+    loop = (0,) + (1,) * 119 + (2,)
+    yield trace_case(rng, "letters: 121 steps of the long loop", LONG_LOOP, loop, pack(TURNING, 1, 121, 121))
+    for letter in (7, 0, 255):
+        for name, table, trace, overtaken in (
+                ("the whole case", WHOLE, (0, 1, 2), showing((0, 1, 2), 1)),
+                ("second guard (3,5], D = 4", two_steps(4), (0, 1), showing((0, 1), 1)),
+                ("second guard (3,5], D = 5", two_steps(5), (0, 1), showing((0, 1), 1)),
+                ("the dead end", DEAD_END, (0, 1), showing((0, 1), 1)),
+                ("the long loop", LONG_LOOP, loop, by(0, 2))):
+            table, name = lettered(table, letter), "%s with letter %d throughout" % (name, letter)
+            yield from both_verdicts(rng, name, table, trace, None)
+            yield table_case(rng, "letters: order: %s" % name, table, overtaken, ORDER)
+
+
+def letters_of_traces(rng):
+    """Chains of which it is known which pairs turn, with letters 1 and 2 in all ways; the chain is also the whole table, and
+    numbered backwards, where the last k is the lowest."""
+    falling = chain_of((1, 9, 12), (1, 9, 9), (1, 9, 5), (1, 9, 2))             # every two steps turn
+    parted = chain_of((1, 9, 20), (1, 9, 15), (100, 109, 20), (1, 9, 15))       # 1 and 2, 3 and 4
+    every_two = tuple(itertools.combinations(range(1, 5), 2))
+    for name, chain, pairs in (("the whole case", WHOLE, ((1, 3),)), ("falling delays", falling, every_two),
+                               ("two pairs apart", parted, ((1, 2), (3, 4)))):
+        n = len(chain.rows)
+        for letters in itertools.product((1, 2), repeat=n):
+            table, text = lettered(chain, *letters), "%s with letters %s" % (name, " ".join(map(str, letters)))
+            unlike = [(k, m) for k, m in pairs if letters[k - 1] != letters[m - 1]]
+            yield trace_case(rng, "letters: " + text, table, range(n),
+                             pack(TURNING, *unlike[0], n) if unlike else pack(0))
+            yield table_case(rng, "letters: %s (table)" % text, table, by(unlike[0][0] - 1) if unlike else pack(0))
+            yield table_case(rng, "letters: %s (numbered backwards)" % text, backwards(table),
+                             by(n - unlike[-1][0]) if unlike else pack(0))
+            yield table_case(rng, "letters: order: " + text, table, by(0), ORDER)
+
+    # one state: many like ends before the unlike one
+    loops = Table(1, 0, [(0, 0, 1, 0, 1, 2, 240), (0, 1, 1, 0, 1, 2, 1), (0, 2, 2, 0, 1, 2, 1)])
+    for more, pair in ((0, (1, 121)), (1, (1, 122)), (117, (1, 238)), (118, (1, 239)), (119, (2, 240)), (391, None)):
+        trace = [0] * 120 + [1] * more + [2] * (more < 391)
+        yield trace_case(rng, "letters: %d like ends" % more, loops, trace,
+                         pack(TURNING, *pair, len(trace)) if pair else pack(0))
+    yield table_case(rng, "letters: a like end and an unlike one in one state", loops, by(0, 2))
+    yield trace_case(rng, "letters: the last of 512 steps alone has another letter", loops, [0] * 511 + [2],
+                     pack(TURNING, 274, 512, 512))
+
+    # both words respond 1 2 1 2, though steps 1 and 4 change places
+    same = lettered(chain_of((1, 2, 20), (1, 2, 20), (1, 20, 5), (1, 2, 4)), 1, 2, 1, 2)
+    yield from both_verdicts(rng, "both words give the same sequence of letters", same, (0, 1, 2, 3), (1, 4))
+
+    # what neighbours overtake is alike, what overtakes by way of them is not
+    yield from both_verdicts(rng, "no neighbour with another letter overtakes",
+                             lettered(chain_of((1, 2, 40), (5, 15, 20), (5, 15, 15)), 1, 1, 2), (0, 1, 2), (1, 3))
+
+
+def letters_of_tables(rng):
+    """Which transitions count, like ends and unlike ones beside each other."""
+    first, short = (0, 0, 1, 1, 1, 2, 40), (1, 0, 1, 2, 3, 5, 36)
+    far, end = (1, 1, 1, 3, 10, 12, 40), (3, 0, 1, 4, 5, 9, 22)
+    for name, a, b, trace in (("a like pair on a short walk, an unlike one on a longer", 1, 2, (0, 2, 3)),
+                              ("an unlike pair on a short walk, a like one on a longer", 2, 1, (0, 1))):
+        table = lettered(Table(5, 0, [first, short, far, end]), 1, a, 1, b)
+        yield table_case(rng, "letters: " + name, table, turning_in(trace, 1))
+        yield table_case(rng, "letters: %s (numbered backwards)" % name, backwards(table),
+                         turning_in([3 - i for i in trace], 1))
+    for a, b in ((1, 2), (2, 1)):
+        yield table_case(rng, "letters: two ends alike in all but letters, %d and %d" % (a, b),
+                         Table(3, 0, [(0, 0, 1, 1, 2, 7, 24), (1, 0, a, 2, 3, 5, 20), (1, 1, b, 2, 3, 5, 20)]),
+                         turning_in((0, 1 if a == 2 else 2), 1))
+        yield table_case(rng, "letters: two firsts alike in all but letters, %d and %d" % (a, b),
+                         Table(3, 0, [(0, 0, a, 1, 2, 7, 24), (0, 1, b, 1, 2, 7, 24), (1, 0, 1, 2, 3, 5, 20)]),
+                         turning_in((0 if a == 2 else 1, 2), 1))
+    pair = [(0, 0, 1, 1, 1, 2, 9), (1, 0, 1, 2, 3, 4, 5)]
+    for name, initial, more in (("before the pair", 3, [(3, 0, 2, 0, 1, 2, 1)]),
+                                ("long after it", 0, [(2, 0, 2, 3, 90, 91, 1)]),
+                                ("in a side branch", 0, [(0, 1, 2, 3, 1, 2, 1)]),
+                                ("where nothing leads", 0, [(3, 0, 2, 1, 1, 2, 90), (3, 1, 2, 2, 1, 2, 1)])):
+        yield table_case(rng, "letters: the other letter stands " + name, Table(4, initial, pair + more), pack(0))
+    yield table_case(rng, "letters: an unlike pair that can't be reached, then one that can",
+                     Table(5, 0, [(3, 0, 2, 1, 1, 2, 9)] + pair + [(1, 1, 2, 4, 3, 4, 5)]), turning_in((1, 3), 1))
+    yield table_case(rng, "letters: firsts that ask for sums of different size",
+                     Table(3, 0, [(0, 0, 1, 1, 1, 2, 240), (0, 1, 2, 1, 1, 2, 100), (1, 0, 3, 1, 1, 2, 240),
+                                  (1, 1, 1, 2, 1, 2, 1)]), by(1, 3))
+    yield table_case(rng, "letters: a loop of like letters between an unlike pair", lettered(LONG_LOOP, 1, 1, 2), by(0, 2))
+    yield table_case(rng, "letters: an unlike loop between a like pair", lettered(LONG_LOOP, 1, 2, 1), by(1, 2))
+
+
+def letters_and_limits(rng):
+    """Both sides of U and V for an unlike end beside a like one, all bits of a letter, and inputs, which don't count."""
+    for difference, like in itertools.product((15, 16, 17, 20, 21, 22, 23), (15, 18, 22)):
+        # two ends (6,9] of a first step, after a step (10,12] that is as slow as it: U = 16, V = 21
+        ends = Table(4, 0, [(0, 0, 1, 1, 1, 2, 40), (1, 0, 1, 2, 10, 12, 40), (2, 0, 1, 3, 6, 9, 40 - like),
+                            (2, 1, 2, 3, 6, 9, 40 - difference)])
+        name = "an end with D = %d, and a like one with D = %d" % (difference, like)
+        turns = 16 < difference <= 21
+        yield trace_case(rng, "letters: " + name, ends, (0, 1, 3), pack(TURNING, 1, 3, 3) if turns else pack(0))
+        yield table_case(rng, "letters: %s (table)" % name, ends, turning_in((0, 1, 3), 1) if turns else pack(0))
+    for bit in range(8):
+        for a, b in ((0, 1 << bit), (1 << bit, 0), (255, 255 ^ 1 << bit)):
+            yield from both_verdicts(rng, "%d and %d" % (a, b), lettered(two_steps(4), a, b), (0, 1), (1, 2))
+    for ins, outs in itertools.product(((5, 5), (5, 6)), ((5, 5), (5, 6), (6, 5), (6, 6))):
+        table = Table(3, 0, [(0, ins[0], outs[0], 1, 2, 7, 24), (1, ins[1], outs[1], 2, 3, 5, 20)])
+        yield from both_verdicts(rng, "inputs %d and %d, outputs %d and %d" % (ins + outs), table, (0, 1),
+                                 (1, 2) if outs[0] != outs[1] else None)
+
+
+def letters_elsewhere(rng):
+    """What letters don't change: a split, the request order, replay, a night of words, rooms."""
+    for name, rows, answer in (
+            ("one letter", [(0, 0, 7, 0, 1, 4, 9), (0, 0, 7, 0, 3, 5, 9)], pack(SPLIT, 0, 1, 1)),
+            ("one letter, other arrivals and delays", [(0, 0, 7, 1, 1, 4, 9), (0, 0, 7, 2, 3, 5, 20)], pack(SPLIT, 0, 1, 1)),
+            ("one letter, and a like pair that turns", [(0, 0, 7, 1, 1, 2, 9), (1, 0, 7, 2, 3, 4, 5), (2, 0, 7, 0, 1, 4, 9),
+                                                        (2, 0, 7, 2, 3, 5, 9)], pack(SPLIT, 2, 3, 3)),
+            ("a like pair before an unlike one", [(0, 0, 7, 1, 1, 4, 9), (0, 0, 7, 2, 3, 5, 9), (0, 0, 8, 1, 1, 4, 9)],
+             pack(SPLIT, 0, 1, 1))):
+        yield table_case(rng, "letters: split with " + name, Table(3, 0, rows), answer)
+    parted = lettered(chain_of((1, 9, 20), (1, 9, 15), (100, 109, 20), (1, 9, 15)), 1, 1, 1, 2)
+    yield table_case(rng, "letters: order: the lowest is overtaken by a like letter, a later one by another", parted,
+                     showing((0, 1), 1), ORDER)
+    yield table_case(rng, "letters: order: like letters far apart",
+                     Table(3, 0, [(0, 0, 1, 1, 1, 2, 240), (1, 0, 2, 1, 1, 2, 240), (1, 1, 1, 2, 200, 201, 1)]), by(0, 2), ORDER)
+    whole = lettered(WHOLE, 7)
+    for stamps, order, due in ((FIRST[1], (1, 3, 2), (12800, 13056, 14592)), (SECOND[1], (3, 1, 2), (13568, 14080, 15872))):
+        yield played_case(rng, "letters: replay with one letter, order %d, %d, %d" % order, whole, (0, 1, 2), stamps,
+                          pinned=exactly(pack(0), order=u16(*order), due=u32(*due)))
+    yield night(rng, "one letter throughout", whole, (0, 1, 2), (FIRST, SECOND, LATE),
+                exactly(pack(0, 3), order=u16(1, 3, 2, 3, 1, 2), due=u32(12800, 13056, 14592, 13568, 14080, 15872),
+                        marks=u16(0, 0, 1)))
+    for call, trace, stamps in ((JUDGE, 538, 2160), (JUDGE, 540, 2159), (JUDGE, 0, 0), (JUDGE_TRACE, 6, 23),
+                                (JUDGE_TRACE, 6, 0)):
+        yield Case(call, [write_file(whole), u16(0, 1, 2) if call == JUDGE_TRACE else rng.randbytes(trace),
+                          rng.randbytes(stamps)], 0,
+                   "letters: one letter, %d and %d bytes of room (%s)" % (trace, stamps, CALLS[call]), pack(8))
+
+
+def letters_of_full_tables(rng):
+    """32 states and 256 transitions with very many walks. Only the last but two turns, with the last, after a loop."""
+    core = []
+    for i in range(252):
+        a, b = (i % 28 + 1, (i + 1) % 28 + 1) if i < 28 else (i * 5 % 28 + 1, i * 11 % 27 + 1)
+        d = 240 - i % 2 if i % 4 or i < 28 else i * 7 % 239 + 1
+        u = i % 3 + 1 if d > 238 else 240 - d
+        core.append((a, i, 1, b, u, u + 1 + i % 3, d))
+    bridge = [(14, 253, 1, 29, 239, 240, 240), (29, 0, 1, 29, 1, 2, 240), (29, 1, 1, 31, 1, 2, 1)]
+    full = Table(32, 0, [(0, 0, 1, 1, 1, 2, 240)] + core + bridge)
+    mixed = [1 + (i % 3 > 0) for i in range(253)]
+    yield table_case(rng, "letters: a full table with one letter", full, pack(0))
+    yield table_case(rng, "letters: order: a full table with one letter", full, by(253, 255), ORDER)
+    yield table_case(rng, "letters: a full table with another letter at the end", lettered(full, *[1] * 255, 2), by(253, 255))
+    yield table_case(rng, "letters: a full table with two letters, the pair alike", lettered(full, *mixed, 1), pack(0))
+    yield table_case(rng, "letters: a full table with two letters, the pair unlike", lettered(full, *mixed, 1, 1, 2),
+                     by(253, 255))
+
+
 def fixed_cases():
     rng = random.Random("fixed")
     cases = []
@@ -1627,33 +1883,20 @@ def fixed_cases():
     def add(name, call, *bufs, start=0, pinned=None):
         cases.append(Case(call, bufs, start, name, pinned))
 
-    def judged(name, table, pinned=None):
-        add(name, JUDGE, write_file(table), rng.randbytes(540), rng.randbytes(2160), pinned=pinned)
+    def judged(*what, **more):
+        cases.append(table_case(rng, *what, **more))
 
-    def ordered(name, table, pinned=None):
-        add("order: " + name, ORDER, write_file(table), rng.randbytes(540), rng.randbytes(1080), pinned=pinned)
+    def ordered(name, *what):
+        cases.append(table_case(rng, "order: " + name, *what, call=ORDER))
 
-    def traced(name, table, trace, pinned=None):
-        add(name, JUDGE_TRACE, write_file(table), u16(*trace), rng.randbytes(8 * len(trace)), pinned=pinned)
+    def traced(*what):
+        cases.append(trace_case(rng, *what))
 
-    def replayed(name, table, trace, stamps, start=0, pinned=None):
-        add(name, REPLAY, write_file(table), u16(*trace), u32(*stamps), rng.randbytes(2 * len(trace)),
-            rng.randbytes(4 * len(trace)), start=start, pinned=pinned)
+    def replayed(*what, **more):
+        cases.append(played_case(rng, *what, **more))
 
     def rewritten(name, data, pinned=None):
         add(name, REWRITE, data, rng.randbytes(5000), pinned=pinned)
-
-    def showing(trace, k):
-        """The one trace that can be shown, its k-th step overtaken by its last one."""
-        return exactly(pack(OVERTAKEN, k, len(trace), len(trace)), trace=u16(*trace))
-
-    def by(first, last=None):
-        """Which transitions the shown pair has."""
-        def check(answer, after):
-            _, k, _, steps = unpack(answer)
-            trace = u16s(after[1], steps)
-            return None if trace[k - 1] == first and last in (None, trace[-1]) else "not the pair that was expected"
-        return check
 
     strict, steady, in_order = pack(0), pack(0), pack(0)
 
@@ -1675,7 +1918,7 @@ def fixed_cases():
              pinned=exactly(pack(0), order=u16(3, 1, 2), due=u32(13568, 14080, 15872)))
     replayed("first stamp 5888: refusal 9, step 1", whole, (0, 1, 2), (5888, 10240, 14080), pinned=pack(9, 1))
     for difference, turns in ((-2, 0), (0, 0), (3, 0), (6, 0), (4, 1), (5, 1)):
-        two = Table(3, 0, [(0, 0, 1, 1, 2, 7, 20 + difference), (1, 0, 2, 2, 3, 5, 20)])
+        two = two_steps(difference)
         name = "second guard (3,5], D = %d: %s" % (difference, "turning" if turns else "steady")
         traced(name, two, (0, 1), pack(TURNING, 1, 2, 2) if turns else steady)
         judged(name + " (table)", two, pack(TURNING, 1, 2, 2) if turns else strict)
@@ -1683,16 +1926,15 @@ def fixed_cases():
              exactly(pack(0), order=u16(1), due=u32(396 + 256)))
     judged("a table without transitions: strict", Table(1, 0, []), strict)
     judged("32 states, no transitions: strict", Table(32, 31, []), strict)
-    dead_end = [(0, 0, 1, 1, 1, 2, 9), (1, 0, 2, 2, 3, 4, 5)]
-    judged("turning 1 2, though p is 4", Table(3, 0, dead_end), pack(TURNING, 1, 2, 2))
+    dead_end = DEAD_END.rows
+    judged("turning 1 2, though p is 4", DEAD_END, pack(TURNING, 1, 2, 2))
     judged("the same with initial 2: strict", Table(3, 2, dead_end), strict)
     judged("the same with initial 1: strict", Table(3, 1, dead_end), strict)
 
     def long_enough(answer, _):
         status, first, _, steps = unpack(answer)
         return None if (status, first) == (TURNING, 1) and steps >= 121 else "fewer than 121 steps are shown"
-    long_loop = Table(3, 0, [(0, 1, 1, 1, 1, 2, 240), (1, 1, 2, 1, 1, 2, 240), (1, 2, 3, 2, 1, 2, 1)])
-    judged("from transition 0 no turning trace has fewer than 121 steps", long_loop, long_enough)
+    judged("from transition 0 no turning trace has fewer than 121 steps", LONG_LOOP, long_enough)
     judged("guards (1,3] and (3,5]: no split", Table(1, 0, [(0, 0, 1, 0, 1, 3, 9), (0, 0, 2, 0, 3, 5, 9)]), strict)
     judged("guards (1,4] and (3,5]: split", Table(1, 0, [(0, 0, 1, 0, 1, 4, 9), (0, 0, 2, 0, 3, 5, 9)]),
            exactly(pack(SPLIT, 0, 1, 1), trace=u16(0), stamps=u32(1024)))
@@ -1790,7 +2032,7 @@ def fixed_cases():
             pinned=pack(0, 4620) if size > 4619 else pack(8))
     split_table = write_file(Table(1, 0, [(0, 0, 1, 0, 1, 4, 9), (0, 0, 2, 0, 3, 5, 9)]))
     for what, data in (("strict", write_file(one)), ("turning", file), ("split", split_table),
-                       ("long", write_file(long_loop))):
+                       ("long", write_file(LONG_LOOP))):
         for trace, stamps in ((0, 0), (540, 0), (0, 2160), (538, 2160), (539, 2160), (540, 2156), (540, 2159),
                               (539, 2159), (540, 2160), (541, 2163), (600, 3000), (540, 2161)):
             add("%s table with %d and %d bytes of room" % (what, trace, stamps), JUDGE, data, rng.randbytes(trace),
@@ -1880,28 +2122,24 @@ def fixed_cases():
     traced("a steady trace of 512 slow steps", slow, [0] * 512, steady)
 
     # --- trace verdicts
-    chain = Table(5, 0, [(0, 0, 1, 1, 1, 2, 1), (1, 0, 1, 2, 1, 2, 20), (2, 0, 1, 3, 3, 30, 10),
-                         (3, 0, 1, 4, 2, 9, 10)])
+    chain = Table(5, 0, [(0, 0, 1, 1, 1, 2, 1), (1, 0, 2, 2, 1, 2, 20), (2, 0, 3, 3, 3, 30, 10),
+                         (3, 0, 4, 4, 2, 9, 10)])
     traced("the early word takes v before k and after m", chain, (0, 1, 2, 3),
            exactly(pack(TURNING, 2, 3, 4), stamps=u32(512, 1024, 8704, 11008, 512, 1024, 1793, 4097)))
-    traced("least k, then least m", Table(1, 0, [(0, 0, 1, 0, 1, 9, 9), (0, 1, 1, 0, 1, 9, 5), (0, 2, 1, 0, 1, 9, 2)]),
+    traced("least k, then least m", Table(1, 0, [(0, 0, 1, 0, 1, 9, 9), (0, 1, 2, 0, 1, 9, 5), (0, 2, 3, 0, 1, 9, 2)]),
            (2, 0, 1, 2), pack(TURNING, 2, 3, 4))
     for name, guard, ds, turns in (("D = U", (2, 3), (9, 7, 5), 0), ("D = U + 1", (2, 3), (10, 8, 5), 1),
                                    ("D = V", (3, 4), (12, 12, 5), 1), ("D = V + 1", (3, 4), (13, 13, 5), 0)):
-        three = Table(1, 0, [(0, 0, 1, 0, 2, 3, ds[0]), (0, 1, 1, 0, 2, 3, ds[1]), (0, 2, 1, 0, *guard, ds[2])])
+        three = Table(1, 0, [(0, 0, 1, 0, 2, 3, ds[0]), (0, 1, 2, 0, 2, 3, ds[1]), (0, 2, 3, 0, *guard, ds[2])])
         traced("%s over two steps" % name, three, (0, 1, 2), pack(TURNING, 1, 3, 3) if turns else steady)
-    long_pair = Table(1, 0, [(0, 0, 1, 0, 1, 2, 240), (0, 1, 1, 0, 1, 2, 1)])
+    long_pair = Table(1, 0, [(0, 0, 1, 0, 1, 2, 240), (0, 1, 2, 0, 1, 2, 1)])
     for n in (1, 117, 118, 119, 236, 237, 238, 239):
-        between = n - 1
-        traced("D = 239 over %d steps of (1,2]" % n, Table(1, 0, [(0, 0, 1, 0, 1, 2, 240), (0, 1, 1, 0, 1, 2, 1)]),
-               [0] * 1 + [0] * between + [1])
+        traced("D = 239 over %d steps of (1,2]" % n, long_pair, [0] * n + [1])
     traced("k is step 1, m is step 121 at the least", long_pair, [0] * 120 + [1], pack(TURNING, 1, 121, 121))
     traced("V = 238 is too little for D = 239", long_pair, [0] * 119 + [1], steady)
     traced("the pair stands at the end of 512 steps", long_pair, [1] * 391 + [0] * 120 + [1], pack(TURNING, 392, 512, 512))
     traced("V = 65,546 with 16 steps of v = 4,095", Table(1, 0, [(0, 0, 1, 0, 1, MAX_V, 200), (0, 1, 2, 0, 1, 26, 100)]),
            [0] * 17 + [1], pack(TURNING, 1, 18, 18))
-    traced("like outputs don't excuse turning", Table(2, 0, [(0, 0, 9, 1, 1, 2, 9), (1, 0, 9, 1, 1, 7, 2)]), (0, 1),
-           pack(TURNING, 1, 2, 2))
 
     # --- table verdicts
     for guard, verdict in (((238, 239), pack(TURNING, 1, 2, 2)), ((239, 240), strict), ((237, 238), strict),
@@ -1910,13 +2148,13 @@ def fixed_cases():
                verdict)
     way = [(s, 0, 0, s + 1, 1, 2, 1) for s in range(31)]
     judged("a witness at the end of 31 steps", Table(32, 0, way + [(31, 0, 1, 0, 1, 2, 240)]))
-    judged("a long witness after 31 steps", Table(32, 0, way + [(31, 0, 1, 31, 1, 2, 240), (31, 1, 1, 0, 1, 2, 1)]))
+    judged("a long witness after 31 steps", Table(32, 0, way + [(31, 0, 1, 31, 1, 2, 240), (31, 1, 2, 0, 1, 2, 1)]))
     late_way = [(s, 0, 0, s + 1, 1, 2, 240) for s in range(31)]
     judged("270 steps may be shown",
            Table(32, 0, [(s, 0, 0, s + 1, 1, 2, 1) for s in range(31)] +
-                 [(31, 0, 1, 30, 1, 2, 240), (30, 1, 1, 30, 1, 2, 240), (30, 2, 1, 0, 1, 2, 1)]))
+                 [(31, 0, 1, 30, 1, 2, 240), (30, 1, 2, 30, 1, 2, 240), (30, 2, 3, 0, 1, 2, 1)]))
     judged("every step of a long way has d = 240",
-           Table(32, 0, late_way + [(31, 0, 1, 31, 1, 2, 240), (31, 1, 1, 0, 1, 2, 1)]))
+           Table(32, 0, late_way + [(31, 0, 1, 31, 1, 2, 240), (31, 1, 2, 0, 1, 2, 1)]))
     judged("a split after 31 steps", Table(32, 0, way + [(31, 0, 1, 0, 1, 3, 1), (31, 0, 2, 31, 2, 3, 1)]),
            exactly(pack(SPLIT, 31, 32, 32), trace=u16(*range(32)), stamps=u32(*stamps_of([512] * 31 + [768]))))
     judged("the second transition of a split has the lesser v",
@@ -1926,7 +2164,7 @@ def fixed_cases():
                                                  (0, 0, 1, 0, 2, 6, 1), (0, 0, 1, 0, 1, 9, 1)]), pack(SPLIT, 1, 3, 1))
     judged("a split that can't be reached", Table(2, 0, [(1, 0, 1, 1, 1, 9, 1), (1, 0, 2, 1, 1, 9, 1)]), strict)
     judged("turning that can't be reached", Table(3, 2, dead_end), strict)
-    judged("k leaves a state that can't be reached", Table(3, 1, [(0, 0, 1, 1, 1, 2, 9), (1, 0, 1, 1, 1, 9, 5)]),
+    judged("k leaves a state that can't be reached", Table(3, 1, [(0, 0, 1, 1, 1, 2, 9), (1, 0, 2, 1, 1, 9, 5)]),
            strict)
     judged("like outputs and arrivals don't excuse a split",
            Table(1, 0, [(0, 0, 1, 0, 1, 4, 9), (0, 0, 1, 0, 3, 5, 9)]), pack(SPLIT, 0, 1, 1))
@@ -1937,28 +2175,28 @@ def fixed_cases():
            pack(SPLIT, 2, 3, 2))
     judged("unlike inputs don't split", Table(1, 0, [(0, 0, 1, 0, 1, 4, 9), (0, 1, 1, 0, 1, 4, 9)]), strict)
     judged("like inputs in two states don't split", Table(2, 0, [(0, 0, 1, 1, 1, 4, 9), (1, 0, 1, 0, 1, 4, 9)]), strict)
-    judged("a loop that turns with itself", Table(1, 0, [(0, 0, 1, 0, 1, 2, 9), (0, 1, 1, 0, 2, 9, 4)]))
+    judged("a loop that turns with itself", Table(1, 0, [(0, 0, 1, 0, 1, 2, 9), (0, 1, 2, 0, 2, 9, 4)]))
     judged("only the walk with greater U turns",
-           Table(4, 0, [(0, 0, 1, 1, 1, 2, 30), (1, 0, 1, 2, 1, 2, 30), (1, 1, 1, 2, 9, 20, 30),
-                        (2, 0, 1, 3, 1, 2, 15)]),
+           Table(4, 0, [(0, 0, 1, 1, 1, 2, 30), (1, 0, 2, 2, 1, 2, 30), (1, 1, 3, 2, 9, 20, 30),
+                        (2, 0, 4, 3, 1, 2, 15)]),
            exactly(pack(TURNING, 1, 3, 3), trace=u16(0, 2, 3)))
     judged("only the walk with lesser V turns",
-           Table(4, 0, [(0, 0, 1, 1, 1, 2, 12), (1, 0, 1, 2, 1, 9, 12), (1, 1, 1, 2, 12, 30, 12),
-                        (2, 0, 1, 3, 1, 2, 2)]),
+           Table(4, 0, [(0, 0, 1, 1, 1, 2, 12), (1, 0, 2, 2, 1, 9, 12), (1, 1, 3, 2, 12, 30, 12),
+                        (2, 0, 4, 3, 1, 2, 2)]),
            exactly(pack(TURNING, 1, 3, 3), trace=u16(0, 1, 3)))
     judged("only the middle walk of three turns",
-           Table(4, 0, [(0, 0, 1, 1, 1, 2, 30), (1, 0, 1, 2, 1, 2, 30), (1, 1, 1, 2, 9, 20, 30),
-                        (1, 2, 1, 2, 25, 60, 30), (2, 0, 1, 3, 1, 2, 15)]),
+           Table(4, 0, [(0, 0, 1, 1, 1, 2, 30), (1, 0, 2, 2, 1, 2, 30), (1, 1, 3, 2, 9, 20, 30),
+                        (1, 2, 4, 2, 25, 60, 30), (2, 0, 5, 3, 1, 2, 15)]),
            exactly(pack(TURNING, 1, 3, 3), trace=u16(0, 2, 4)))
     judged("the lowest number that turns is not the first on the way",
-           Table(4, 0, [(2, 0, 1, 3, 3, 4, 5), (1, 0, 1, 2, 1, 2, 9), (0, 0, 1, 1, 1, 2, 20)]),
+           Table(4, 0, [(2, 0, 1, 3, 3, 4, 5), (1, 0, 2, 2, 1, 2, 9), (0, 0, 3, 1, 1, 2, 20)]),
            exactly(pack(TURNING, 2, 3, 3), trace=u16(2, 1, 0)))
     judged("turning, though steady on whole ticks",
-           Table(4, 0, [(0, 0, 1, 1, 1, 3, 9), (1, 0, 1, 2, 1, 3, 8), (2, 0, 1, 3, 1, 3, 6)]),
+           Table(4, 0, [(0, 0, 1, 1, 1, 3, 9), (1, 0, 2, 2, 1, 3, 8), (2, 0, 3, 3, 1, 3, 6)]),
            exactly(pack(TURNING, 1, 3, 3), trace=u16(0, 1, 2)))
-    judged("always overtaken is not turning", Table(3, 0, [(0, 0, 1, 1, 1, 2, 240), (1, 0, 1, 2, 1, 2, 1)]), strict)
+    judged("always overtaken is not turning", Table(3, 0, [(0, 0, 1, 1, 1, 2, 240), (1, 0, 2, 2, 1, 2, 1)]), strict)
     judged("the greatest sums of v",
-           Table(2, 0, [(0, 0, 1, 1, 1, 4095, 240), (1, 0, 1, 1, 1, 4095, 240), (1, 1, 1, 0, 1, 4095, 1)]))
+           Table(2, 0, [(0, 0, 1, 1, 1, 4095, 240), (1, 0, 2, 1, 1, 4095, 240), (1, 1, 3, 0, 1, 4095, 1)]))
 
     # --- document 02, R-1
     ordered("the whole case is overtaken 1 3", whole,
@@ -1971,8 +2209,8 @@ def fixed_cases():
                          (2, 1, 4, 2, 1, 2, 240)]), in_order)
     ordered("256 transitions with equal delays", Table(32, 0, many), in_order)
     for difference in (-2, 0, 1, 2, 3, 4, 5, 6, 200):
-        two = Table(3, 0, [(0, 0, 1, 1, 2, 7, 20 + difference), (1, 0, 2, 2, 3, 5, 20)])
-        ordered("second guard (3,5], D = %d" % difference, two, showing((0, 1), 1) if difference > 3 else in_order)
+        ordered("second guard (3,5], D = %d" % difference, two_steps(difference),
+                showing((0, 1), 1) if difference > 3 else in_order)
     for guard, taken in (((238, 239), 1), ((238, 4095), 1), ((1, 2), 1), ((239, 240), 0), ((4094, 4095), 0)):
         ordered("D = 239, guard (%d,%d]" % guard, Table(3, 0, [(0, 0, 1, 1, 1, 2, 240), (1, 0, 2, 2, *guard, 1)]),
                 showing((0, 1), 1) if taken else in_order)
@@ -1985,8 +2223,8 @@ def fixed_cases():
                 showing((0, 1, 2), 1) if taken else showing((0, 1, 2), 2))
     ordered("overtaken, though never on whole ticks",
             Table(4, 0, [(0, 0, 1, 1, 1, 3, 9), (1, 0, 2, 2, 1, 3, 8), (2, 0, 3, 3, 1, 3, 6)]), showing((0, 1, 2), 1))
-    ordered("the end of the loop of 121 steps", long_loop, by(0, 2))
-    ordered("the dead end", Table(3, 0, dead_end), showing((0, 1), 1))
+    ordered("the end of the loop of 121 steps", LONG_LOOP, by(0, 2))
+    ordered("the dead end", DEAD_END, showing((0, 1), 1))
     for initial in (1, 2):
         ordered("the dead end from state %d" % initial, Table(3, initial, dead_end), in_order)
     ordered("like letters count", Table(2, 0, [(0, 5, 9, 1, 1, 2, 9), (1, 5, 9, 1, 1, 7, 2)]))
@@ -2103,8 +2341,9 @@ def fixed_cases():
         pinned=pack(OVERTAKEN, 1, 3, 3))
     add("order: a file of 2^32 + 66 bytes", ORDER, Buf(file, big + 66), rng.randbytes(540), rng.randbytes(1080),
         pinned=pack(2, 66))
-    for of_words in (words_answered, words_counted, words_lent, words_refused):
-        cases += of_words(rng)
+    for more in (words_answered, words_counted, words_lent, words_refused, letters_throughout, letters_of_traces,
+                 letters_of_tables, letters_and_limits, letters_elsewhere, letters_of_full_tables):
+        cases += more(rng)
     # what the documents have and what has a name first
     return sorted(cases, key=lambda c: c.name.startswith(("whole case cut", "whole case with bit")))
 

@@ -112,7 +112,7 @@ for text in "$root"/examples/*.table; do
         printed "example $name" strict
     fi
 done
-[ "$examples" -ge 7 ]
+[ "$examples" -ge 8 ]
 verdict 'the examples were there' $?
 
 # ---- Strict and turning: U < D <= V ----
@@ -147,8 +147,43 @@ judged 'a way before the pair' 'turning 2 3' '1 2 2560 2560' '2 0 3072 3072' '3 
 1 -> 2 input 0 output 2 (3,4] delay 5
 3 -> 0 input 0 output 3 (9,10] delay 1'
 
+# ---- Like letters: a pair turns only if its output letters differ ----
+
+# one_letter: the text on standard input with one output letter throughout.
+one_letter() {
+    sed 's/ output [a-z_0-9]*/ output 7/'
+}
+for name in source-trace inputs-a-b download-wide; do
+    one_letter <"$root/examples/$name.table" | judged "one letter: example $name" strict
+done
+for delay in 14 15; do
+    first "$delay" | one_letter | judged "one letter, D = $((delay - 10)): strict" strict
+done
+short 0 | one_letter | judged 'one letter, a dead end' strict
+kept=$root/examples/map-kept.table
+sed 's/link_lost   output map_kept/link_lost   output no_map/' "$kept" |
+    judged 'example map-kept with another letter' 'turning 2 3' '1 0 153600 153600' '2 3 179200 179200' '3 4 202240 179713'
+sed 's/map_whole   output/link_lost   output/' "$kept" | judged 'like letters, like inputs' strict
+sed 's/^output no_map .*/&\noutput still_used 13/; s/map_whole   output map_kept/map_whole   output still_used/' "$kept" |
+    judged 'two names of one letter' strict
+
+# in_a_row LETTER LETTER LETTER: every two of three steps change places.
+in_a_row() {
+    printf 'states 4 initial 0\n0 -> 1 input 0 output %d (1,2] delay 20\n' "$1"
+    printf '%s\n' "1 -> 2 input 1 output $2 (3,12] delay 10" "2 -> 3 input 2 output $3 (1,9] delay 5"
+}
+in_a_row 1 1 1 | judged 'three steps, one letter' strict
+in_a_row 1 1 2 | judged 'three steps, the third has another letter' 'turning 1 3' '1 0 512 512' '2 1 3584 1281' '3 2 5888 1538'
+in_a_row 1 2 1 | judged 'three steps, the second has another letter' 'turning 1 2' '1 0 512 512' '2 1 3584 1281'
+judged 'the lowest transition is that of a pair with other letters' 'turning 1 2' '1 2 512 512' '2 3 1792 1281' <<<'states 5 initial 0
+0 -> 1 input 0 output 1 (1,2] delay 14
+1 -> 2 input 0 output 1 (3,5] delay 10
+0 -> 3 input 1 output 1 (1,2] delay 14
+3 -> 4 input 0 output 2 (3,5] delay 10'
+
 # ---- Split ----
 
+one_letter <"$root/examples/split.table" | judged 'like letters excuse no split' 'split 1 2' '1 0 0 2560' '2 1 2 3584'
 judged 'touching guards' strict <<<'states 2 initial 0
 0 -> 1 input 0 output 1 (1,3] delay 1
 0 -> 1 input 0 output 2 (3,5] delay 1'
@@ -192,9 +227,13 @@ for name in download-narrow split touching; do
 done
 run --order "$root/examples/download-wide.bin"
 printed 'order: example download-wide' 'overtaken 2 3' '1 0 153600' '2 4 179200' '3 5 179713'
-run --order "$root/examples/flow-change.table"
-mapfile -t lines < <(sed -n 's/^#     //p' "$root/examples/flow-change.table")
-printed 'order: a strict example that is overtaken' "${lines[@]}"
+for name in flow-change map-kept; do
+    run --order "$root/examples/$name.table"
+    mapfile -t lines < <(sed -n 's/^#     //p' "$root/examples/$name.table")
+    printed "order: a strict example that is overtaken: $name" "${lines[@]}"
+done
+one_letter <"$root/examples/source-trace.table" | ordered 'like letters count' "${order_lines[@]}"
+in_a_row 1 1 2 | ordered 'like letters count first' 'overtaken 1 2' '1 0 512' '2 1 1281'
 
 ordered 'no transitions' 'in order' <<<'states 1 initial 0'
 for delay in 8 10 13; do

@@ -124,6 +124,11 @@ run "${install[@]}" /opt/sandgusset --destdir packed
 [ "$status" -eq 0 ] && holds packed/opt/sandgusset && [ "$(ls packed packed/opt)" = $'packed:\nopt\n\npacked/opt:\nsandgusset' ] &&
     grep -qx 'prefix=/opt/sandgusset' packed/opt/sandgusset/lib/pkgconfig/sandgusset.pc && ! grep -rqF "$work" packed
 verdict 'with --destdir all is below that folder and speaks of PREFIX' $?
+mkdir -p older/lib
+for old in libsandgusset.so.1.3.0 libsandgusset.so.1; do echo "$old" >"older/lib/$old"; done
+"${install[@]}" "$work/older" >/dev/null && [ "$(cat older/lib/libsandgusset.so.1)" = libsandgusset.so.1 ] &&
+    [ "$(cat older/lib/libsandgusset.so.1.3.0)" = libsandgusset.so.1.3.0 ] && [ "$(readlink older/lib/libsandgusset.so)" = "libsandgusset.so.$major" ]
+verdict 'the shared object of an earlier major version stays, for the hosts that were linked with it' $?
 (umask 077 && "${install[@]}" "$work/shy/kit" >/dev/null) && [ -z "$(find shy -not -perm -444 -o -type d -not -perm -555)" ]
 verdict 'everyone may read what is installed, whatever the mask' $?
 
@@ -198,6 +203,8 @@ python_host() {
     answered "$name: split" 0 'split 1 2'
     run "$@" "$root/examples/host.py" "$root/examples/touching.bin" "$library"
     answered "$name: strict" 0 strict
+    run "$@" "$root/examples/host.py" "$root/examples/map-kept.bin" "$library"
+    answered "$name: strict, though like letters change places" 0 strict
     run "$@" "$root/examples/host.py" cut "$library"
     answered "$name: refused" 1 'refused 1 at 26'
 }
@@ -243,6 +250,10 @@ run "$judge" cut
 answered 'sandgusset-judge: refused' 2 'refused 1 at 26'
 run "$judge" --order "$root/examples/source-trace.bin"
 answered 'sandgusset-judge --order: overtaken' 1 'overtaken 1 3' '1 0 5120' '2 1 8961' '3 2 11522'
+run "$judge" "$root/examples/map-kept.bin"
+answered 'sandgusset-judge: like letters' 0 strict
+run "$judge" --order "$root/examples/map-kept.bin"
+answered 'sandgusset-judge --order: like letters count' 1 'overtaken 2 3' '1 0 153600' '2 3 179200' '3 4 179713'
 run "$judge" --order <"$root/examples/split.bin"
 answered 'sandgusset-judge --order: in order, though split' 0 'in order'
 run "$judge" --order cut

@@ -66,7 +66,7 @@ looked() {
 for name in source-trace download-wide inputs-a-b; do looked "$name" 2 <"$root/examples/$name.table"; done
 looked split 1 <"$root/examples/split.table"
 for name in flow-change inputs-a-b; do looked "$name-order" 1 --order <"$root/examples/$name.table"; done
-looked download-narrow 0 <"$root/examples/download-narrow.table"
+for name in download-narrow map-kept; do looked "$name" 0 <"$root/examples/$name.table"; done
 looked refused 0 <<<'states 0 initial 0'
 
 # 269 steps, on two scales.

@@ -89,6 +89,9 @@ for text in "$root"/examples/*.table; do
 done
 [ "$examples" -ge 6 ] && [ "$examples" -eq "$(find "$root/examples" -name '*.bin' | wc -l)" ]
 verdict 'each example is there as text and as file' $?
+count=(no one two three four five six seven eight nine ten)
+grep -qF "\`examples/\` has ${count[$examples]} tables" "$root/README.md"
+verdict 'the README says how many there are' $?
 [ "$(wc -c <"$root/examples/source-trace.bin")" -eq 66 ]
 verdict 'example source-trace: 66 bytes' $?
 

@@ -59,9 +59,22 @@ def side_by_side(rng):
                                     (1, 0, 3, 0, *independent.guard_of(rng, 5, 5), rng.randint(1, 9))])
 
 
+def like_letters(rng):
+    """A slow response, then a quick one with the same letter, which may overtake it, and a step back with either letter."""
+    return independent.Table(2, 0, [(0, 0, 1, 1, *independent.guard_of(rng, 30, 9), rng.randint(10, 25)),
+                                    (1, 0, 1, 0, *independent.guard_of(rng, 5, 30), rng.randint(1, 9)),
+                                    (1, 1, rng.randint(1, 2), 0, *independent.guard_of(rng, 30, 9), rng.randint(1, 9))])
+
+
+def only_like(table):
+    """Is a strict table one in which responses with like letters come in either order?"""
+    rows = [row[:independent.OUTPUT] + (number,) + row[independent.OUTPUT + 1:] for number, row in enumerate(table.rows)]
+    return independent.judge(independent.Table(table.states, table.initial, rows)) != ("strict",)
+
+
 def small_tables():
-    """Strict tables whose ends are stopped by turning, by splits, by nothing; small and great bounds."""
-    shapes = (side_by_side, independent.shape_pair, independent.shape_wide, side_by_side, independent.shape_tiny)
+    """Strict tables whose ends are stopped by turning, by splits, by nothing; small and great bounds; like letters."""
+    shapes = (side_by_side, independent.shape_pair, like_letters, independent.shape_wide, side_by_side, independent.shape_tiny)
     for seed in range(2000):
         rng = random.Random(f"widths {seed}")
         table = shapes[seed % len(shapes)](rng)
@@ -71,11 +84,12 @@ def small_tables():
 
 def compare(judge, most):
     stopped = {"split": 0, "turning": 0, "none": 0}
-    done = 0
+    done = like = 0
     for seed, table in small_tables():
         if done == most:
             break
         done += 1
+        like += only_like(table)
         reach = independent.reachable(table)
         wanted = []
         for number, row in enumerate(table.rows):
@@ -91,6 +105,7 @@ def compare(judge, most):
             for word, sign in (("split", "split, "), ("turning", "turning, "), ("none", "there is no ")):
                 stopped[word] += said.count(sign)
     verdict(f"ends of all sorts were met: {stopped}", min(stopped.values()) >= 3)
+    verdict(f"tables in which like letters change places were met: {like}", like >= 2)
 
 
 # ---- Judges of our own ----
@@ -164,7 +179,7 @@ def main():
         return 0 if len(sys.argv) == 2 else 2
     pretended()
     bar()
-    compare(sys.argv[1], 8)
+    compare(sys.argv[1], 10)
     print(f"{counts[True]} passed, {counts[False]} failed")
     return 1 if counts[False] else 0
 

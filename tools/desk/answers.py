@@ -8,9 +8,10 @@ from desk.files import Trouble
 Verdict = namedtuple("Verdict", "status fields means")
 
 VERDICTS = {
-    "strict": Verdict(0, 0, "no timing of the requests changes the order of the responses, and none is answered in two ways"),
+    "strict": Verdict(0, 0, "no timing of the requests changes the order of responses that can be told apart, and none is answered in "
+                            "two ways"),
     "split": Verdict(1, 4, "one timing of the requests is answered in two ways: the table does not say which"),
-    "turning": Verdict(1, 4, "two timings of the same requests give the responses in different orders"),
+    "turning": Verdict(1, 4, "under two timings of the same requests, responses that can be told apart come in different orders"),
     "in order": Verdict(0, 0, "however the requests are timed, no step responds before an earlier one"),
     "overtaken": Verdict(1, 3, "a later step can respond before an earlier one"),
     "refused": Verdict(2, 0, "this is no table"),
@@ -41,7 +42,8 @@ RULES = {
     5: "No two transitions agree in all seven numbers: departure, input, output, arrival, u, v, d.",
 }
 
-Answer = namedtuple("Answer", "raw word numbers rows")
+# apart: of a strict table, if it was asked for, the judge's answer for the table with all output letters told apart
+Answer = namedtuple("Answer", "raw word numbers rows apart", defaults=(None,))
 
 
 def understood(raw):

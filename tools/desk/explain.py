@@ -35,6 +35,12 @@ def of_steps(source, pair):
                         for number, times in counted(pair.between) for t in [source.table().transitions[number]]])
 
 
+def letters(source, pair):
+    """The output letter that both steps of a pair have; it may have two names."""
+    first, last = source.written(pair.first).output, source.written(pair.last).output
+    return f"output {first}" if first == last else f"output {pair.steps[pair.k - 1].output}, by its names {first} and {last}"
+
+
 def of_turning(source, answer):
     turn = Turn(answer, source.table())
     k, m, d, u, v = turn.k, turn.m, turn.d, turn.u, turn.v
@@ -54,9 +60,12 @@ def of_overtaken(source, answer):
     lines = [f"Step {m} can respond before step {k}, though its request comes later:"] + of_steps(source, pair)
     lines += [f"  U < D, that is {u} < {d}: with less than {d} ticks between the two requests step {m} responds first, output {last}."]
     if d <= v:
-        lines += [f"  D <= V, that is {d} <= {v}: with {d} ticks or more step {k} does, output {first}. So this pair turns."]
+        so = "comes in either order" if pair.like else "turns"
+        lines += [f"  D <= V, that is {d} <= {v}: with {d} ticks or more step {k} does, output {first}. So this pair {so}."]
     else:
         lines += [f"  D > V, that is {d} > {v}: there are never {d} ticks between. So this pair is always reversed, and does not turn."]
+    if pair.like:
+        lines += [f"  Both have {letters(source, pair)}. Like letters make no table turn, but in the order of the requests they count."]
     lines += [f"  In the timing shown step {number} has its request at {ticks(pair.early.arrivals[number - 1])} and its response at "
               f"{ticks(pair.early.due[number - 1])} ticks." for number in (k, m)]
     return lines + ["", f"This pair keeps its order if U is at least D: now {u} and {d}. By which guard or delay is your choice. Ask again then:",
@@ -76,6 +85,19 @@ def of_split(source, answer):
     return lines + listed(requests)
 
 
+def of_like_letters(source, apart):
+    """Whether responses change places that can't be told apart; by the judge's answer, if it was asked."""
+    if apart is None:
+        return []
+    if apart.word == "strict":
+        return ["Responses with like output letters come in one order too."]
+    turn = Turn(apart, source.table())
+    k, m, d, u, v = turn.k, turn.m, turn.d, turn.u, turn.v
+    lines = ["Responses with like output letters can't be told apart, and may change places: the letters come in one sequence all the same.",
+             f"Here some do, such as those of steps {k} and {m} of one trace, both with {letters(source, turn)}:"] + of_steps(source, turn)
+    return lines + [f"  U < D <= V, that is {u} < {d} <= {v}: these two come in either order. If their letters differed, the table would turn."]
+
+
 def of_strict(source, answer):
     """What holds of every timing, and of which transitions."""
     table = source.table()
@@ -87,11 +109,12 @@ def of_strict(source, answer):
     if lost:
         lines += ["These transitions can't be reached, and were not judged:"]
         lines += listed([transition_line(source, "", number) for number in lost])
-    return lines
+    return lines + of_like_letters(source, answer.apart)
 
 
 def of_in_order(source, answer):
-    return of_strict(source, answer) + ["So no two responses turn. A split is another question: ./judge without --order answers it."]
+    return of_strict(source, answer) + ["Every two steps count here, like letters or not; so no two responses turn. A split is another question:",
+                                        "./judge without --order answers it."]
 
 
 def of_refused(source, answer):

@@ -3,10 +3,12 @@
     ./judge [OPTIONS] [FILE]
 
 FILE is a table in text (tools/table --help shows the form) or a table file; - or no FILE is standard input.
-Standard output has the documents' lines and nothing else, unless an option asks for more.
+Standard output has the documents' lines and nothing else, unless an option asks for more. Strict and turning speak of
+responses that can be told apart, those whose output letters differ: like letters may change places.
 
-    --order          another question: does the table keep the order of its requests? Prints 'in order', 'overtaken K M'
-                     (step M can respond before step K; lines of step, transition, stamp) or 'refused N at P'
+    --order          another question: does the table keep the order of its requests? Like letters count here. Prints 'in
+                     order', 'overtaken K M' (step M can respond before step K; lines of step, transition, stamp) or
+                     'refused N at P'
     --explain        then the answer in words: lines, names, what makes it so, the timings as a picture
     --widths         of a strict table: lines of transition, least lower bound, greatest upper bound, each alone, with
                      which the table stays strict; with --explain what stops each there
@@ -30,7 +32,7 @@ if sys.version_info < (3, 9):
 sys.dont_write_bytecode = True
 sys.path.insert(0, os.path.dirname(os.path.dirname(os.path.realpath(__file__))))
 
-from desk import answers, calls, explain, files, page, program, sources, widths  # noqa: E402
+from desk import answers, calls, explain, files, page, program, sources, tables, widths  # noqa: E402
 
 
 def judged(source, judge):
@@ -39,6 +41,14 @@ def judged(source, judge):
     if source.faults and answer.word != "refused":
         raise files.Trouble(f"{source.name}: has faults that the program doesn't see; this is a fault of tools/desk")
     return answer
+
+
+def with_like_letters(source, answer, judge):
+    """A strict answer with what the judge says if all letters are told apart: then only like letters can be what turns."""
+    apart = answers.understood(judge.answer(tables.write_file(tables.told_apart(source.table()))))
+    if apart.word not in ("strict", "turning"):
+        raise files.Trouble(f"{source.name}: other letters made it {apart.word}; this is a fault of tools/desk")
+    return answer._replace(apart=apart)
 
 
 def tell_refusal(source, answer):
@@ -64,6 +74,8 @@ def serve(call, path):
     judge = program.Program("order" if call.order else "judge")
     judge.ready()
     answer = judged(source, judge)
+    if answer.word == "strict" and (call.explain or call.page is not None):
+        answer = with_like_letters(source, answer, judge)
     wide = widths.found(judge, source.table()) if call.widths and answer.word == "strict" else None
     files.put_out(printed(call, source, answer, wide))
     if answer.word == "refused":

@@ -140,6 +140,14 @@ def write_file(table):
     return b"".join(records)
 
 
+# ---- Letters ----
+
+def told_apart(table):
+    """The table with an output letter of its own for each transition: there are as many letters. Every two steps that come in
+    either order turn in it, since a transition never changes places with itself."""
+    return table._replace(transitions=[t._replace(output=number) for number, t in enumerate(table.transitions)])
+
+
 # ---- What can be reached ----
 
 def reached_states(table):

@@ -36,6 +36,7 @@ class Pair:
         self.early = self.timings[-1]
         self.first, self.last = self.trace[self.k - 1], self.trace[self.m - 1]
         self.between = self.trace[self.k:self.m]  # steps k+1 to m
+        self.like = self.steps[self.k - 1].output == self.steps[self.m - 1].output  # the responses can't be told apart
         self.d = self.steps[self.k - 1].d - self.steps[self.m - 1].d
         self.u = sum(step.u for step in self.steps[self.k:self.m])
         self.v = sum(step.v for step in self.steps[self.k:self.m])

@@ -1,10 +1,10 @@
 """How far each guard may be widened, each end alone, with the table still strict.
 
-Widening a guard only adds timings: a word that activated a trace still does, and the responses of a word do not depend on the
-guards. So a table that is not strict stays so if the guard is widened further, and each end is found by halving between a
-value at which the judge says strict and one at which it does not. The next value to try is not always the middle: a witness of
-the judge says at which value this one witness would be gone, and that is often the end itself. It is no more than a guess: an
-end counts when the judge has said strict there and something else one further, or when there is no further.
+Widening a guard only adds timings: a word that activated a trace still does, and neither the times of a word's responses nor
+their letters depend on the guards. So a table that is not strict stays so if the guard is widened further, and each end is found
+by halving between a value at which the judge says strict and one at which it does not. The next value to try is not always the
+middle: a witness of the judge says at which value this one witness would be gone, and that is often the end itself. It is no more
+than a guess: an end counts when the judge has said strict there and something else one further, or when there is no further.
 
 A refusal would count as not strict: two equal transitions answer one request. None comes up, since of a strict table no
 transition can be widened to be equal to another: before that they would share a bound, and so a gap.

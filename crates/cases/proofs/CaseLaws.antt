@@ -6,19 +6,19 @@ use Prim.Native.Nat.{ℕ, zero, suc, _+_, _≤_, _<_}
 use native.Mathlib.Omega.{arith}
 use lib.ListN.{length, drop, getD, length-map}
 use Rattle.model.specs.Answers.{Fields, fields}
-use Rattle.model.specs.Lists.{All, all-nil, all-cons, over}
+use Rattle.model.specs.Lists.{All, all-nil, all-cons, over, LeastPair}
 use Rattle.model.specs.Table.{Transition, Machine, InRange, Valid, at}
 use Rattle.model.specs.Trace.{Trace, Handed, steps}
 use Rattle.model.specs.Order.{Response, response, Conversion}
-use Rattle.model.specs.Criterion.{Crosses, Criterion, WalkFrom}
-use Rattle.model.specs.Verdict.{SplitPair, Splits, OnlyTurns}
+use Rattle.model.specs.Criterion.{Criterion}
+use Rattle.model.specs.Verdict.{Turns, Turning, TableTurns, SplitPair, Splits, OnlyTurns}
 use Rattle.model.specs.Stamps.{gapsFrom, wordFrom, shownStamps}
 use Rattle.model.proofs.Conversion.{order, conversion-exists}
 use Rattle.model.proofs.CriterionLaws.{InTicks, criterion-is}
 use Rattle.model.proofs.Pair.{turns-law, turning-law}
-use Rattle.model.proofs.Paths.{trace-ranged, length-steps}
+use Rattle.model.proofs.Letters.{one-letter, one-letter-table}
+use Rattle.model.proofs.Paths.{trace-all, trace-ranged, length-steps}
 use Rattle.model.proofs.Split.{split-law}
-use Rattle.model.proofs.Turn.{table-walk-law}
 use Rattle.model.proofs.Words.{words-show}
 use Rattle.table.specs.Tests.{Test, Passes, Answered, refuses, answers, afterTable}
 use Rattle.table.specs.Showing.{says-none, says-shown}
@@ -31,7 +31,7 @@ use Rattle.replay.proofs.OutcomeLaws.{play-only}
 use Rattle.verdict.specs.OnTrace.{TraceSays, says-steady, says-turning, TraceOutcome}
 use Rattle.verdict.proofs.JudgeLaws as verdict
 use Rattle.table_verdict.specs.OnTable.{tableTests, ShowsTurning, split-shown, turning-shown, TableSays, TableOutcome}
-use Rattle.cases.specs.Cases.{Case, replayed, judged, tabled, sized, Size, Alone, Holds}
+use Rattle.cases.specs.Cases.{Case, replayed, judged, tabled, sized, Size, Alone, Holds, spoken, oneLetter}
 
 -- every number in its range, and transition i leads from state i to the next
 abbrev pub Chain : ℕ → ℕ → List Transition → Type 0
@@ -72,6 +72,19 @@ responsesOf tr start stamps = map (response tr (wordFrom tr start stamps)) (orde
 pub record Prepared (m : Machine) (trace : List ℕ) : Type 0 where
   pub valid : Valid m
   pub handed : Handed (m .transitions) trace
+
+-- where one letter is used throughout nothing turns
+letters : (l : List Transition) → All (λ t. t .output ≡ 1) (map spoken l)
+letters [] = all-nil
+letters (t ∷ l) = all-cons refl (letters l)
+
+pub alike-steady : (m : Machine) (trace : List ℕ) → Prepared (oneLetter m) trace → Turning (steps (oneLetter m .transitions) trace) → ⊥
+alike-steady m trace r =
+    let h = r .handed in
+    one-letter (trace-all (oneLetter m .transitions) (letters (m .transitions)) (h .start) (h .end) trace (h .path))
+
+pub alike-strict : (m : Machine) → TableTurns (oneLetter m) → ⊥
+alike-strict m = one-letter-table (oneLetter m) (letters (m .transitions))
 
 -- what the gaps decide, after the other tests of a replay
 abbrev pub GapsSay : List Transition → ℕ → List ℕ → Fields → List ℕ → List ℕ → Type 0
@@ -128,62 +141,67 @@ module _ {m : Machine} {trace : List ℕ} (r : Prepared m trace) (start : ℕ) (
           (y .0, y .1 .0, y .1 .1),
     )
 
--- what the criterion says of two steps, the only pair that can turn
-abbrev pub PairSays : Transition → Transition → Fields → Type 0
-PairSays a b answer =
-    ((answer ≡ fields 0 0 0 0) × (InTicks (a ∷ b ∷ []) 0 1 → ⊥)) ⊎ ((answer ≡ fields 257 1 2 2) × InTicks (a ∷ b ∷ []) 0 1)
+-- what is so of a trace: no two orders, or a least pair that turns
+abbrev pub PairSays : List Transition → Fields → Type 0
+PairSays tr answer =
+    ((answer ≡ fields 0 0 0 0) × (Turning tr → ⊥))
+    ⊎ ((k : ℕ) × (m : ℕ) × (answer ≡ fields 257 (suc k) (suc m) (length tr)) × LeastPair (InTicks tr) k m)
 
-only-pair : {a b : Transition} (k m : ℕ) → InTicks (a ∷ b ∷ []) k m → (k ≡ 0) × (m ≡ 1)
+pub only-pair : {a b : Transition} (k m : ℕ) → InTicks (a ∷ b ∷ []) k m → (k ≡ 0) × (m ≡ 1)
 only-pair zero zero c = absurd (omega arith)
 only-pair zero (suc zero) c = (refl, refl)
 only-pair zero (suc (suc m)) c = absurd (omega arith)
 only-pair (suc k) m c = absurd (omega arith)
 
-module _ {n : ℕ} {a b : Transition} (good : All (InRange n) (a ∷ b ∷ [])) (s₀ : List ℕ) where
-  abbrev both : List Transition
-  both = a ∷ b ∷ []
+-- of two steps there is one pair
+pub two-steady : {n : ℕ} {a b : Transition} → All (InRange n) (a ∷ b ∷ []) → (InTicks (a ∷ b ∷ []) 0 1 → ⊥) → Turning (a ∷ b ∷ []) → ⊥
+two-steady {a = a} {b = b} good none x =
+    let c = turning-law good .0 x in
+    let t : InTicks (a ∷ b ∷ []) (c .0) (c .1) = criterion-is (a ∷ b ∷ []) (c .0) (c .1) .0 (c .2) in
+    let p = only-pair (c .0) (c .1) t in
+    none (rw (p .0, p .1) at t)
 
-  says : {answer : Fields} → PairSays a b answer → (s : List ℕ) × TraceSays both (s ≡ s₀) (λ x. s ≡ over x s₀) answer
-  says (inl (e, none)) = (
-    s₀,
-    says-steady e (λ x.
-        let c = turning-law good .0 x in
-        let t : InTicks both (c .0) (c .1) = criterion-is both (c .0) (c .1) .0 (c .2) in
-        let p = only-pair (c .0) (c .1) t in
-        none (rw (p .0, p .1) at t)) refl,
-  )
-  says (inr (e, t)) =
-      let c : Criterion both 0 1 = criterion-is both 0 1 .1 t in (
-        over (shownStamps both 0 1) s₀,
-        says-turning {k = 0} {m = 1} e (record {
-          turning = turning-law good .1 (0, 1, c);
+pub only-least : {tr : List Transition} {k m : ℕ} → InTicks tr k m → ((x y : ℕ) → InTicks tr x y → (x ≡ k) × (y ≡ m)) → LeastPair (InTicks tr) k m
+only-least t only = record { pair = t; least = λ x y o. let p = only x y o in inr (omega arith, omega arith) }
+
+pub two-least : {a b : Transition} → InTicks (a ∷ b ∷ []) 0 1 → LeastPair (InTicks (a ∷ b ∷ [])) 0 1
+two-least t = only-least t only-pair
+
+module _ {n : ℕ} {tr : List Transition} (good : All (InRange n) tr) (s₀ : List ℕ) where
+  says : {answer : Fields} → PairSays tr answer → (s : List ℕ) × TraceSays tr (s ≡ s₀) (λ x. s ≡ over x s₀) answer
+  says (inl (e, none)) = (s₀, says-steady e none refl)
+  says (inr (k, m, e, t)) =
+      let c : Criterion tr k m = criterion-is tr k m .1 (t .pair) in (
+        over (shownStamps tr k m) s₀,
+        says-turning {k = k} {m = m} e (record {
+          turning = turning-law good .1 (k, m, c);
           pair = record {
-            pair = turns-law good 0 1 .1 c;
-            least = λ x y o. let p = only-pair x y (criterion-is both x y .0 (turns-law good x y .0 o)) in inr (omega arith, omega arith);
+            pair = turns-law good k m .1 c;
+            least = λ x y o. t .least x y (criterion-is tr x y .0 (turns-law good x y .0 o));
           };
-          shows = words-show good 0 1 c;
+          shows = words-show good k m c;
         }) refl,
       )
 
-judges-alone : {m : Machine} {trace : List ℕ} {a b : Transition} {answer : Fields} → Prepared m trace → steps (m .transitions) trace ≡ a ∷ b ∷ []
-    → PairSays a b answer → Holds (judged m trace answer)
-judges-alone {m = m} {trace = trace} {answer = answer} r e p s₀ room =
-    let s = says (rw e at (handed-ranged m trace (r .valid) (r .handed))) s₀ p in
-    let y : TraceOutcome m trace s₀ answer (s .0) =
-    answers (valid-passes m (r .valid) (verdict.own m trace s₀) (r .handed, (room, tt))) (rw e (s .1)) in
+judges-alone : {m : Machine} {trace : List ℕ} {answer : Fields} → Prepared m trace → PairSays (steps (m .transitions) trace) answer
+    → Holds (judged m trace answer)
+judges-alone {m = m} {trace = trace} {answer = answer} r p s₀ room =
+    let s = says (handed-ranged m trace (r .valid) (r .handed)) s₀ p in
+    let y : TraceOutcome m trace s₀ answer (s .0) = answers (valid-passes m (r .valid) (verdict.own m trace s₀) (r .handed, (room, tt))) (s .1) in
     (s .0, y, λ f x o. answered-only (λ e k l. (e, k ∙ sym l)) (λ d e. verdict.says-only (λ k l. k ∙ sym l) (λ s p q. p ∙ sym q) d e) o y)
 
--- of the traces from the initial state only this one has two steps, and it has no third
-abbrev pub OnlyTwo : Machine → List ℕ → Type 0
-OnlyTwo m trace = (l : List ℕ) (e k n : ℕ) → Trace (m .transitions) (m .initial) l e → k < n → n < length l → (l ≡ trace) × (k ≡ 0) × (n ≡ 1)
+-- of the traces from the initial state only this one has a pair that turns, its first and its last step
+abbrev pub OnlyOne : Machine → List ℕ → ℕ → Type 0
+OnlyOne m trace last =
+    (l : List ℕ) (e k n : ℕ) → Trace (m .transitions) (m .initial) l e → InTicks (steps (m .transitions) l) k n → (l ≡ trace) × (k ≡ 0) × (n ≡ last)
 
--- what is so of a machine that doesn't split: no walk turns, or a single trace has two steps, and they turn
+-- what is so of a machine that doesn't split: no trace turns, or a single one
 abbrev pub WalksSay : Machine → Fields → List ℕ → List ℕ → Type 0
 WalksSay m answer trace stamps =
     let tr : List Transition = steps (m .transitions) trace in
-    ((answer ≡ fields 0 0 0 0) × (trace ≡ []) × (stamps ≡ []) × ((i : ℕ) → WalkFrom Crosses m i → ⊥))
-    ⊎ ((answer ≡ fields 257 1 2 2) × (stamps ≡ shownStamps tr 0 1) × ((e : ℕ) × Trace (m .transitions) (m .initial) trace e) × (length trace ≡ 2)
-    × InTicks tr 0 1 × OnlyTwo m trace)
+    ((answer ≡ fields 0 0 0 0) × (trace ≡ []) × (stamps ≡ []) × (TableTurns m → ⊥))
+    ⊎ ((last : ℕ) × (answer ≡ fields 257 1 (suc last) (suc last)) × (stamps ≡ shownStamps tr 0 last)
+    × ((e : ℕ) × Trace (m .transitions) (m .initial) trace e) × (length trace ≡ suc last) × (last < 270) × InTicks tr 0 last × OnlyOne m trace last)
 
 -- a machine that doesn't split, and memory of enough places
 module _ {m : Machine} (valid : Valid m) (unsplit : (i j : ℕ) → SplitPair m i j → ⊥) (l₀ s₀ : List ℕ) where
@@ -193,18 +211,26 @@ module _ {m : Machine} (valid : Valid m) (unsplit : (i j : ℕ) → SplitPair m 
   abbrev Told : Fields → List ℕ → List ℕ → Type 0
   Told f l s = TableSays m ((l ≡ l₀) × (s ≡ s₀)) (λ x y. (l ≡ over x l₀) × (s ≡ over y s₀)) f
 
-  module _ (trace : List ℕ) (e : ℕ) (path : Trace (m .transitions) (m .initial) trace e) (t : InTicks (steps (m .transitions) trace) 0 1) where
-    good : All (InRange (m .states)) (steps (m .transitions) trace)
-    good = trace-ranged (m .transitions) (valid .ranged) (m .initial) e trace path
+  good : (trace : List ℕ) (e : ℕ) → Trace (m .transitions) (m .initial) trace e → All (InRange (m .states)) (steps (m .transitions) trace)
+  good trace e path = trace-ranged (m .transitions) (valid .ranged) (m .initial) e trace path
 
-    meets : Criterion (steps (m .transitions) trace) 0 1
-    meets = criterion-is (steps (m .transitions) trace) 0 1 .1 t
+  -- a pair that turns, in ticks
+  ticks : (trace : List ℕ) (e : ℕ) → Trace (m .transitions) (m .initial) trace e → (k n : ℕ) → Turns (steps (m .transitions) trace) k n
+      → InTicks (steps (m .transitions) trace) k n
+  ticks trace e path k n t = criterion-is (steps (m .transitions) trace) k n .0 (turns-law (good trace e path) k n .0 t)
+
+  module _ (trace : List ℕ) (e last : ℕ) (path : Trace (m .transitions) (m .initial) trace e) (t : InTicks (steps (m .transitions) trace) 0 last) where
+    meets : Criterion (steps (m .transitions) trace) 0 last
+    meets = criterion-is (steps (m .transitions) trace) 0 last .1 t
 
     turns : OnlyTurns m
-    turns = record { unsplit = whole; turns = record { trace = trace; end = e; path = path; turning = turning-law good .1 (0, 1, meets) } }
+    turns = record {
+      unsplit = whole;
+      turns = record { trace = trace; end = e; path = path; turning = turning-law (good trace e path) .1 (0, last, meets) };
+    }
 
-    shows : length trace ≡ 2 → OnlyTwo m trace → ShowsTurning m trace 0 1
-    shows n only = record {
+    shows : length trace ≡ suc last → last < 270 → OnlyOne m trace last → ShowsTurning m trace 0 last
+    shows n few only = record {
       only = turns;
       lowest = record {
         end = e;
@@ -212,30 +238,30 @@ module _ {m : Machine} (valid : Valid m) (unsplit : (i j : ℕ) → SplitPair m 
         few = omega arith;
         ends = n;
         lowest = λ i f.
-            let q = only (f .trace) (f .end) (f .k) (f .later) (f .path) (f .pair .early .ordered) (rw length-steps at (f .pair .early .inside)) in
+            let q = only (f .trace) (f .end) (f .k) (f .later) (f .path) (ticks (f .trace) (f .end) (f .path) (f .k) (f .later) (f .pair)) in
             let z : getD trace 0 0 ≡ i = cc (q .0, q .1, f .here) in
             omega arith;
         earliest = λ x h. absurd (omega arith);
-        pair = turns-law good 0 1 .1 meets;
+        pair = turns-law (good trace e path) 0 last .1 meets;
       };
-      shows = words-show good 0 1 meets;
+      shows = words-show (good trace e path) 0 last meets;
     }
 
   table-says : {answer : Fields} {trace stamps : List ℕ} → WalksSay m answer trace stamps → Told answer (over trace l₀) (over stamps s₀)
-  table-says (inl (z, el, es, none)) =
-      says-none z (record { unsplit = whole; steady = λ x. let w = table-walk-law m valid .0 x in none (w .0) (w .1) }) (rw el, rw es)
-  table-says {trace = trace} (inr (z, es, (e, path), n, t, only)) =
-      says-shown (turning-shown {shown = trace} {k = 0} {last = 1} z (shows trace e path t n only)) (refl, rw es)
+  table-says (inl (z, el, es, none)) = says-none z (record { unsplit = whole; steady = none }) (rw el, rw es)
+  table-says {trace = trace} (inr (last, z, es, (e, path), n, few, t, only)) =
+      says-shown (turning-shown {shown = trace} {k = 0} {last = last} z (shows trace e last path t n few only)) (refl, rw es)
 
   -- every answer that is allowed is the one that the case expects
   told : {answer f : Fields} {trace stamps l s : List ℕ} → WalksSay m answer trace stamps → Told f l s
       → (f ≡ answer) × (l ≡ over trace l₀) × (s ≡ over stamps s₀)
   told c (says-shown (split-shown z p) l) = absurd (whole (p .splits))
   told (inl (q, el, es, none)) (says-none z p k) = (z ∙ sym q, rw el (k .0), rw es (k .1))
-  told (inl (q, el, es, none)) (says-shown (turning-shown z p) l) = let w = table-walk-law m valid .0 (p .only .turns) in absurd (none (w .0) (w .1))
-  told {trace = trace} (inr (q, es, (e, path), n, t, only)) (says-none z p k) = absurd (p .steady (turns trace e path t .turns))
-  told (inr (q, es, x, n, t, only)) (says-shown (turning-shown {shown = shown} {k = k} {last = last} z p) l) =
-      let o = only shown (p .lowest .end) k last (p .lowest .path) (p .lowest .pair .early .ordered) (omega (arith, p .lowest .ends)) in
+  told (inl (q, el, es, none)) (says-shown (turning-shown z p) l) = absurd (none (p .only .turns))
+  told {trace = trace} (inr (last, q, es, (e, path), n, few, t, only)) (says-none z p k) = absurd (p .steady (turns trace e last path t .turns))
+  told {trace = trace} (inr (last, q, es, x, n, few, t, only)) (says-shown (turning-shown {shown = shown} {k = k} {last = end} z p) l) =
+      let y = p .lowest in
+      let o = only shown (y .end) k end (y .path) (ticks shown (y .end) (y .path) k end (y .pair)) in
       let w = rw (o .0, o .1, o .2) at l in
       ((rw (o .1, o .2) at z) ∙ sym q, w .0, rw es (w .1))
 
@@ -250,14 +276,12 @@ module _ {m : Machine} (valid : Valid m) (unsplit : (i j : ℕ) → SplitPair m 
 abbrev pub Computed : Case → Type 0
 Computed (replayed m trace start stamps answer order due) =
     Prepared m trace × (length stamps ≡ length trace) × GapsSay (steps (m .transitions) trace) start stamps answer order due
-Computed (judged m trace answer) =
-    let tr : List Transition = steps (m .transitions) trace in
-    Prepared m trace × (tr ≡ at tr 0 ∷ at tr 1 ∷ []) × PairSays (at tr 0) (at tr 1) answer
+Computed (judged m trace answer) = Prepared m trace × PairSays (steps (m .transitions) trace) answer
 Computed (tabled m answer trace stamps) = Valid m × ((i j : ℕ) → SplitPair m i j → ⊥) × WalksSay m answer trace stamps
 Computed (sized c) = (states initial : ℕ) → Size states initial → Computed (c states initial)
 
 pub computed-holds : (c : Case) → Computed c → Holds c
 computed-holds (replayed m trace start stamps answer os ds) (r, e, g) = λ o₀ d₀ a b. replays-alone r start stamps e o₀ d₀ a b g
-computed-holds (judged m trace answer) (r, e, p) = judges-alone r e p
+computed-holds (judged m trace answer) (r, p) = judges-alone r p
 computed-holds (tabled m answer trace stamps) (v, unsplit, c) = λ l₀ s₀ a b. table-alone v unsplit l₀ s₀ a b c
 computed-holds (sized f) c = λ states initial h. computed-holds (f states initial) (c states initial h)

@@ -1,6 +1,7 @@
--- 01, "Both sides of each limit": the cases marked P as data, and what it means that a call answers one as it says.
+-- 01, "Both sides of each limit": the cases marked P as data, the turning ones with one letter besides (02, R-3), and what it means that a call
+-- answers one as it says.
 use mathlib.Core.Path.{_≡_}
-use mathlib.Core.List.{List, [], _∷_}
+use mathlib.Core.List.{List, [], _∷_, map}
 use Prim.Native.Nat.{ℕ, suc, _*_, _≤_, _<_}
 use lib.ListN.{length}
 use Rattle.model.specs.Answers.{Fields, fields}
@@ -65,6 +66,13 @@ bare states initial = record { states = states; initial = initial; transitions =
 abbrev pub short : Machine
 short = record { states = 3; initial = 0; transitions = step 0 1 1 2 9 ∷ step 1 2 3 4 5 ∷ [] }
 
+-- 02, R-3: "if one letter is used throughout"
+abbrev pub spoken : Transition → Transition
+spoken t = record { from = t .from; input = t .input; output = 1; to = t .to; u = t .u; v = t .v; d = t .d }
+
+abbrev pub oneLetter : Machine → Machine
+oneLetter m = record { states = m .states; initial = m .initial; transitions = map spoken (m .transitions) }
+
 -- 0: played, steady or strict
 abbrev pub fine : Fields
 fine = fields 0 0 0 0
@@ -81,7 +89,12 @@ onSource stamps = replayed source (0 ∷ 1 ∷ 2 ∷ []) 0 stamps
 abbrev onTwo : ℕ → Fields → Case
 onTwo d = judged (two d) (0 ∷ 1 ∷ [])
 
--- "refusal 9, step 1" is 9 with the place 1; D is -2, 0, 3, 4, 5, 6 for d 8, 10, 13, 14, 15, 16; the last due time, 652, is the gap 396 and a tick
+-- "turning 1 3", and the trace has 3 steps
+abbrev pub whole : Fields
+whole = fields 257 1 3 3
+
+-- "refusal 9, step 1" is 9 with the place 1; D is -2, 0, 3, 4, 5, 6 for d 8, 10, 13, 14, 15, 16; the last due time, 652, is the gap 396 and a tick;
+-- the last seven are the turning cases as they stand, the whole case among them, and with one letter
 abbrev pub cases : List Case
 cases =
     onSource (2560 ∷ 6912 ∷ 10496 ∷ []) fine (1 ∷ 3 ∷ 2 ∷ []) (12800 ∷ 13056 ∷ 14592 ∷ []) ∷
@@ -96,4 +109,11 @@ cases =
     replayed one (0 ∷ []) 4294967000 (100 ∷ []) fine (1 ∷ []) (652 ∷ []) ∷
     sized (λ states initial. tabled (bare states initial) fine [] []) ∷
     tabled short turning (0 ∷ 1 ∷ []) (512 ∷ 1536 ∷ 512 ∷ 1281 ∷ []) ∷
+    judged source (0 ∷ 1 ∷ 2 ∷ []) whole ∷
+    tabled source whole (0 ∷ 1 ∷ 2 ∷ []) (5120 ∷ 10240 ∷ 14080 ∷ 5120 ∷ 8961 ∷ 11522 ∷ []) ∷
+    judged (oneLetter source) (0 ∷ 1 ∷ 2 ∷ []) fine ∷
+    tabled (oneLetter source) fine [] [] ∷
+    judged (oneLetter (two 14)) (0 ∷ 1 ∷ []) fine ∷
+    judged (oneLetter (two 15)) (0 ∷ 1 ∷ []) fine ∷
+    tabled (oneLetter short) fine [] [] ∷
     []

@@ -3,8 +3,9 @@ use table::Row;
 ghost use mathlib.Core.Path.{_≡_};
 ghost use Rattle.model.specs.Answers.{Tells};
 ghost use Rattle.model.specs.Criterion.{Above, Below, Crosses, Spent, slack};
+ghost use Rattle.model.specs.Order.{Differ};
 ghost use Rattle.table.specs.Rows.{said};
-ghost use Rattle.criterion.specs.Goals.{Meets};
+ghost use Rattle.criterion.specs.Goals.{Meets, Told, Possible};
 
 // What a search asks of two steps.
 pub enum Goal {
@@ -32,10 +33,23 @@ pub fn below(k: Row, m: Row, late: u32) -> bool
     true
 }
 
-// U < D ≤ V: whether the pair turns.
+// Whether the two responses can be told apart: no other place compares letters.
+pub fn differ(k: Row, m: Row) -> bool
+    ensures { λ b. ⌜ Tells b (Differ (said k) (said m)) ⌝ }
+{
+    if k.output == m.output {
+        return false;
+    }
+    true
+}
+
+// Unlike letters and U < D ≤ V: whether the pair turns.
 pub fn crosses(k: Row, m: Row, u: u32, late: u32) -> bool
     ensures { λ b. ⌜ Tells b (Crosses (said k) (said m) u late) ⌝ }
 {
+    if !differ(k, m) {
+        return false;
+    }
     if !above(k, m, u) {
         return false;
     }
@@ -53,6 +67,29 @@ pub fn meets(goal: Goal, k: Row, m: Row, u: u32, late: u32) -> bool
         Goal::Turns => crosses(k, m, u, late),
         Goal::Overtakes => above(k, m, u),
     }
+}
+
+// Whether the letters let the pair be what is asked for.
+fn told(goal: Goal, k: Row, m: Row) -> bool
+    ensures { λ b. ⌜ Tells b (Told goal (said k) (said m)) ⌝ }
+{
+    match goal {
+        Goal::Turns => differ(k, m),
+        Goal::Overtakes => true,
+    }
+}
+
+// Whether the pair can be what is asked for if the walk between is short and late enough.
+pub fn possible(goal: Goal, k: Row, m: Row) -> bool
+    ensures { λ b. ⌜ Tells b (Possible goal (said k) (said m)) ⌝ }
+{
+    if !above(k, m, m.u as u32) {
+        return false;
+    }
+    if !told(goal, k, m) {
+        return false;
+    }
+    true
 }
 
 // So much u that no later step is above k: every delay is at least 1.

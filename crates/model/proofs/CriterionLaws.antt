@@ -9,6 +9,7 @@ use native.Mathlib.Decide.{decLt}
 use lib.ListN.{length}
 use Rattle.model.specs.Lists.{between}
 use Rattle.model.specs.Table.{Transition, InRange, at}
+use Rattle.model.specs.Order.{Differ}
 use Rattle.model.specs.Shown.{lateGap}
 use Rattle.model.specs.Span.{span, lateSum, sumU, sumV}
 use Rattle.model.specs.Criterion.{Above, Below, Crosses, Spent, slack, Goal, Ahead, Criterion}
@@ -28,10 +29,11 @@ pub below-is : (k m : Transition) (v : ℕ) → Below k m (v * 256) ↔ (k .d �
 unfolding Below
 below-is k m v = (λ h. omega arith, λ h. omega arith)
 
--- "For steps k < m .. The pair turns exactly if U < D ≤ V."
+-- "For steps k < m .. The pair turns exactly if U < D ≤ V", of two steps "whose output letters differ" (02, R-3)
 pub record InTicks (tr : List Transition) (k m : ℕ) : Type 0 where
   pub ordered : k < m
   pub inside : m < length tr
+  pub differ : Differ (at tr k) (at tr m)
   pub above : sumU tr k m + at tr m .d < at tr k .d
   pub below : at tr k .d ≤ sumV tr k m + at tr m .d
 
@@ -40,6 +42,7 @@ criterion-is tr k m = (
   λ c. record {
     ordered = c .ordered;
     inside = c .inside;
+    differ = c .meets .differ;
     above = above-is (at tr k) (at tr m) (sumU tr k m) .0 (c .meets .above);
     below = below-is (at tr k) (at tr m) (sumV tr k m) .0 (rw (sum-late (between k m tr)) at (c .meets .below));
   },
@@ -47,6 +50,7 @@ criterion-is tr k m = (
     ordered = c .ordered;
     inside = c .inside;
     meets = record {
+      differ = c .differ;
       above = above-is (at tr k) (at tr m) (sumU tr k m) .1 (c .above);
       below = rw (sum-late (between k m tr)) (below-is (at tr k) (at tr m) (sumV tr k m) .1 (c .below));
     };
@@ -82,6 +86,15 @@ module _ (k m : Transition) where
   unfolding Above slack
   slack-most a h = omega arith
 
+  -- what is above is sooner than k's delay, by more than its slack
+  pub slack-none : Above k m (m .u) → k .d ≤ m .u + m .d → ⊥
+  unfolding Above
+  slack-none h l = omega arith
+
+  pub slack-under : (n : ℕ) → Above k m (m .u) → k .d ≤ n + (m .u + m .d) → slack k m < n
+  unfolding Above slack
+  slack-under n h l = omega arith
+
   -- and a bound on it, whether m is above or not
   pub slack-small : {a b : ℕ} → InRange a k → InRange b m → slack k m ≤ 237
   unfolding slack
@@ -105,7 +118,7 @@ pub record Sought (goal : Goal) : Type 0 where
 pub crosses-sought : Sought Crosses
 crosses-sought = record {
   above = λ k m u late c. c .above;
-  moves = λ k m u late x more c a l. record { above = a; below = below-more k m late more (c .below) l };
+  moves = λ k m u late x more c a l. record { differ = c .differ; above = a; below = below-more k m late more (c .below) l };
 }
 
 pub ahead-sought : Sought Ahead

@@ -1,9 +1,10 @@
 -- The criterion of a pair, for the theorems to compare with the definition by words, and the walks that meet it. Its two halves have one
--- name each, and everything that searches goes by their laws (R-3, R-7 and R-10 change what stands here).
+-- name each, and everything that searches goes by their laws (R-7 and R-10 change what stands here).
 use mathlib.Core.List.{List, [], _∷_, _++_}
 use Prim.Native.Nat.{ℕ, _+_, _*_, _-_, _≤_, _<_}
 use lib.ListN.{length}
 use Rattle.model.specs.Table.{Transition, Machine, at}
+use Rattle.model.specs.Order.{Differ}
 use Rattle.model.specs.Trace.{Trace, Reached, steps}
 use Rattle.model.specs.Span.{span, lateSum, sumU, sumLate}
 
@@ -15,8 +16,9 @@ Above k m u = u + m .d < k .d
 unfoldable pub Below : Transition → Transition → ℕ → Type 0
 Below k m late = k .d * 256 ≤ late + m .d * 256
 
--- "The pair turns exactly if U < D ≤ V."
+-- "The pair turns exactly if U < D ≤ V", since R-3 of 02 only if the two letters differ
 pub record Crosses (k m : Transition) (u late : ℕ) : Type 0 where
+  pub differ : Differ k m
   pub above : Above k m u
   pub below : Below k m late
 

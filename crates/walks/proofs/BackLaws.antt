@@ -20,10 +20,13 @@ use Rattle.criterion.specs.declared.Goal.the-variants.{Turns, Overtakes}
 use Rattle.criterion.specs.Goals.{Meets}
 use Rattle.criterion.proofs.GoalLaws.{goal-sought}
 use Rattle.walks.specs.Walks.{Seen, Walk, EndsIn, ShownWalk}
-use Rattle.walks.specs.Best.{cell, asked, Exact, Filled, Roomy, Closes, ReadyFor, Deeper, Explains, Explained, LeastRow, Stands, Back, EndSum, Went}
+use Rattle.walks.specs.declared.soon.Soonest.{Soonest}
+use Rattle.walks.specs.Soon.{Soon, RowsFor}
+use Rattle.walks.specs.Best.{cell, asked, Exact, Filled, Roomy, Closes, ReadyFor, Explains, Explained, LeastRow, Stands, Back, EndSum, Went}
 use Rattle.walks.proofs.WalkLaws.{sum-last, trace-last, Last, walk-none, walk-wide, walk-on, walk-last, walk-zero}
 use Rattle.walks.proofs.BestLaws.{filled-less}
-use Rattle.walks.proofs.EndLaws.{ends-by, ends-closes}
+use Rattle.walks.proofs.EndLaws.{ends-by, ends-closes, end-possible}
+use Rattle.walks.proofs.SoonLaws.{rows-cover}
 
 -- one more number behind those that stand from place p on
 store-more : (p n : ℕ) (old rest : List ℕ) (j : ℕ) → length rest ≡ n → p + n < length old
@@ -210,15 +213,16 @@ module _ {ts : List Transition} {s : ℕ} {best : List ℕ} where
           let v : Explains ts best (at ts j .from) (sum - t .u) i = rw (z .here) x in
           rw q (went-on whole-here stands-here h own v d old mid n l w)
 
--- the rows that are made for a transition
-pub show-ready : {ts : List Transition} {k n top : ℕ} {best : List ℕ} {first : Transition} → Seen ts k first → length ts ≡ n → Deeper ts k 0 n top
-    → Roomy ts (first .to) best → Filled ts (first .to) best (top + 1) → ReadyFor ts k best
-show-ready {top = top} z len d s f =
+-- the rows that are made for a transition, one more than it asks for
+pub show-ready : {goal : Goal} {ts : List Transition} {k n rows : ℕ} {best : List ℕ} {first : Transition} {soon : Soonest} → Seen ts k first
+    → length ts ≡ n → Soon ts n soon → RowsFor goal first soon rows → Roomy ts (first .to) best → Filled ts (first .to) best (rows + 1)
+    → ReadyFor goal ts k best
+show-ready {rows = rows} z len b w s f =
     rw (z .here) (record {
       roomy = s;
-      depth = top + 1;
+      depth = rows + 1;
       filled = f;
-      covers = λ m h. omega (arith, d .covers m (omega arith));
+      covers = λ m l c. omega (arith, rows-cover z b w m (omega arith) c);
     })
 
 -- the number that is asked for, of the last row's
@@ -237,7 +241,7 @@ row-meets Turns k m u sum e h c a = goal-sought Turns .moves k m _ _ _ _ c a (om
 row-meets Overtakes k m u sum e h c a = a
 
 -- the sum from which an end is walked back, with the two transitions that the code has read
-module _ (goal : Goal) {ts : List Transition} {k m : ℕ} {best : List ℕ} (z : ReadyFor ts k best) (t : EndsIn goal ts k m)
+module _ (goal : Goal) {ts : List Transition} {k m : ℕ} {best : List ℕ} (z : ReadyFor goal ts k best) (t : EndsIn goal ts k m)
     {first last : Transition} (df : Seen ts k first) (dl : Seen ts m last) where
   closed : Closes goal (at ts k) (at ts m) (cell best (slack (at ts k) (at ts m)) (at ts m .from))
   closed = ends-closes goal k z m t
@@ -261,7 +265,7 @@ module _ (goal : Goal) {ts : List Transition} {k m : ℕ} {best : List ℕ} (z :
     end-stands =
         record {
           roomy = z .roomy;
-          filled = filled-less (omega (arith, l .within, z .covers m (dl .known))) (z .filled);
+          filled = filled-less (omega (arith, l .within, z .covers m (dl .known) (end-possible goal t))) (z .filled);
           state = fm .leaves;
           high = omega (arith, l .within, slack-small (at ts k) (at ts m) fk fm);
           some = some-there;

@@ -18,15 +18,18 @@ use Rattle.model.proofs.Lists.{all-at}
 use Rattle.model.proofs.Paths.{trace-split}
 use Rattle.model.proofs.CriterionLaws.{above-less, slack-fits, slack-most, slack-small}
 use Rattle.criterion.specs.declared.Goal.{Goal}
-use Rattle.criterion.specs.Goals.{Meets}
-use Rattle.criterion.proofs.GoalLaws.{goal-sought}
+use Rattle.criterion.specs.Goals.{Meets, Possible}
+use Rattle.criterion.proofs.GoalLaws.{goal-sought, met-possible}
 use Rattle.walks.specs.declared.Found.{Found}
 use Rattle.walks.specs.declared.Found.the-variants.{At, Nothing}
 use Rattle.walks.specs.Walks.{Seen, Walk, Arrives, EndsIn, StartsAt, Starts, Least, LeastBelow, Among}
-use Rattle.walks.specs.Best.{cell, Filled, Roomy, Closes, ReadyFor, ReadyAt, Deeper, Deep}
+use Rattle.walks.specs.declared.soon.Soonest.{Soonest}
+use Rattle.walks.specs.Soon.{Soon, Deeper}
+use Rattle.walks.specs.Best.{cell, Filled, Roomy, Closes, ReadyFor, ReadyAt, Deep}
 use Rattle.walks.proofs.Found.{the-type}
 use Rattle.walks.proofs.WalkLaws.{sum-last, trace-last}
 use Rattle.walks.proofs.BestLaws.{cell-small}
+use Rattle.walks.proofs.SoonLaws.{rows-most, rows-cover}
 
 -- the law of what is asked, and the walks that end in it
 module _ (goal : Goal) where
@@ -59,6 +62,10 @@ module _ (goal : Goal) where
     end-above x h =
         above-less (at ts k) (at ts m) _ x (goal-sought goal .above (at ts k) (at ts m) _ _ (t .meets)) (omega (arith, sum-last ts (λ t. t .u) (t .rest) m))
 
+    -- whatever the walk before it
+    pub end-possible : Possible goal (at ts k) (at ts m)
+    end-possible = met-possible goal (at ts k) (at ts m) _ _ (omega (arith, sum-last ts (λ t. t .u) (t .rest) m)) (t .meets)
+
   -- the test of an end, with the late gap that the code has read
   module _ {k m : Transition} {x g : ℕ} (e : g ≡ lateGap m) where
     pub not-closed : (Meets goal k m (m .u) (x - 1 + g) → ⊥) → Closes goal k m x → ⊥
@@ -68,14 +75,15 @@ module _ (goal : Goal) where
     is-closed n p = record { late = x - 1; some = omega arith; meets = rw e at p }
 
   -- the table of numbers and the walks say the same of an end
-  module _ {ts : List Transition} (k : ℕ) {best : List ℕ} (z : ReadyFor ts k best) (m : ℕ) where
+  module _ {ts : List Transition} (k : ℕ) {best : List ℕ} (z : ReadyFor goal ts k best) (m : ℕ) where
     abbrev a : ℕ
     a = slack (at ts k) (at ts m)
 
     closes-ends : m < length ts → Closes goal (at ts k) (at ts m) (cell best a (at ts m .from)) → EndsIn goal ts k m
     closes-ends h p =
         let f = all-at none (z .roomy .fine) m h in
-        let w : Walk ts (at ts k .to) (at ts m .from) a (p .late) = z .filled .row a (z .covers m h) .real (at ts m .from) (p .late) (f .leaves) (p .some) in
+        let c = met-possible goal (at ts k) (at ts m) _ _ (omega arith) (p .meets) in
+        let w : Walk ts (at ts k .to) (at ts m .from) a (p .late) = z .filled .row a (z .covers m h c) .real (at ts m .from) (p .late) (f .leaves) (p .some) in
         let above = slack-fits (at ts k) (at ts m) (goal-sought goal .above (at ts k) (at ts m) _ _ (p .meets)) in
         ends-by (w .way) h (w .path) (goal-sought goal .moves (at ts k) (at ts m) _ _ _ _ (p .meets)
         (above-less (at ts k) (at ts m) _ _ above (omega (arith, w .fits))) (omega (arith, w .late)))
@@ -87,7 +95,7 @@ module _ (goal : Goal) where
         let b : ℕ = lateSum (steps ts (t .rest)) in
         let o = slack-most (at ts k) (at ts m) (span (steps ts (t .rest)) .u) (end-above t _ (omega arith)) in
         let w : Walk ts (at ts k .to) (at ts m .from) a b = record { way = t .rest; path = end-rest t; fits = o; late = refl } in
-        let p = z .filled .row a (z .covers m h) .most (at ts m .from) b (f .leaves) w in
+        let p = z .filled .row a (z .covers m h (end-possible t)) .most (at ts m .from) b (f .leaves) w in
         record {
           late = cell best a (at ts m .from) - 1;
           some = omega arith;
@@ -96,6 +104,10 @@ module _ (goal : Goal) where
         }
 
     -- with the transitions and the numbers that the code has read
+    module _ {first last : Transition} (df : Seen ts k first) (dl : Seen ts m last) where
+      pub not-possible : (Possible goal first last → ⊥) → EndsIn goal ts k m → ⊥
+      not-possible n t = n (rw (df .here, dl .here) at (end-possible t))
+
     module _ {first last : Transition} (df : Seen ts k first) (dl : Seen ts m last) {row : ℕ} (dr : row ≡ slack first last) where
       -- the number's place
       pub number-there : (length best ≡ 7648) × (row ≤ 238) × (last .from < 32)
@@ -108,10 +120,11 @@ module _ (goal : Goal) where
         pub end-law : Closes goal first last x ↔ EndsIn goal ts k m
         end-law = rw (← df .here, ← dl .here, number-is) (closes-ends (dl .known), ends-closes)
 
-        pub number-small : x < 4278190080
-        number-small =
+        pub number-small : Possible goal first last → x < 4278190080
+        number-small c =
             let f = all-at none (z .roomy .fine) m (dl .known) in
-            let s = cell-small best a (at ts m .from) (z .roomy .fine) (z .filled .row a (z .covers m (dl .known))) (f .leaves) in
+            let p : Possible goal (at ts k) (at ts m) = rw (df .here, dl .here) c in
+            let s = cell-small best a (at ts m .from) (z .roomy .fine) (z .filled .row a (z .covers m (dl .known) p)) (f .leaves) in
             let l = slack-small (at ts k) (at ts m) (all-at none (z .roomy .fine) k (df .known)) f in
             omega (arith, number-is)
 
@@ -150,51 +163,46 @@ module _ {P : ℕ → Type 0} {l n : ℕ} (len : l ≡ n) where
   pub among-none : {i : ℕ} → n ≤ i → ((x : ℕ) → x < i → P x → ⊥) → Among P l → ⊥
   among-none h b p = b (p .x) (omega (arith, p .known)) (p .holds)
 
+-- r rows cover the possible ends after k
+abbrev Covered : Goal → List Transition → List ℕ → ℕ → ℕ → ℕ → Type 0
+Covered goal ts dist s r k = Arrives ts dist s k → (m : ℕ) → m < length ts → Possible goal (at ts k) (at ts m) → slack (at ts k) (at ts m) < r
+
 -- the rows that are asked for
-module _ {ts : List Transition} where
-  pub deeper-none : {k top : ℕ} → top ≤ 238 → Deeper ts k top 0 top
-  deeper-none h = record { most = h; more = omega arith; covers = λ m h. absurd (omega arith) }
+module _ {goal : Goal} {ts : List Transition} {dist : List ℕ} {s : ℕ} where
+  pub deep-none : Deep goal ts dist s 0 0
+  deep-none = record { most = omega arith; covers = λ k h. absurd (omega arith) }
 
-  pub deeper-more : {k top i r a x : ℕ} {first last : Transition} → Seen ts k first → Seen ts i last → a ≡ slack first last → Deeper ts k top i r
-      → r ≤ x → a ≤ x → x ≤ 238 → Deeper ts k top (i + 1) x
-  deeper-more {k} {top} {i} {r} {a} {x} df dl q d h l o =
-      record {
-        most = o;
-        more = omega (arith, d .more);
-        covers = below-more (λ m. slack (at ts k) (at ts m) ≤ x) i (λ m g. omega (arith, d .covers m g)) (rw (df .here, dl .here, ← q) l);
-      }
+  -- transition i does not arrive in s
+  pub deep-skip : {i r x : ℕ} → x ≡ r → Deep goal ts dist s i r → (Arrives ts dist s i → ⊥) → Deep goal ts dist s (i + 1) x
+  deep-skip {i} {r} q d n = rw q (record { most = d .most; covers = below-more (Covered goal ts dist s r) i (d .covers) (λ p. absurd (n p)) })
 
-  module _ {dist : List ℕ} {s : ℕ} where
-    pub deep-none : Deep ts dist s 0 0
-    deep-none = record { most = omega arith; covers = λ k h. absurd (omega arith) }
+  -- it does
+  pub deep-more : {i n r x y : ℕ} {first : Transition} {soon : Soonest} → y ≡ x → Seen ts i first → length ts ≡ n → Soon ts n soon
+      → Deep goal ts dist s i r → Deeper goal first soon r x → Deep goal ts dist s (i + 1) y
+  deep-more {i} {n} {r} {x} q z len b d w = rw q (record {
+    most = ⊎-elim (λ e. omega (arith, d .most)) (λ e. omega (arith, rows-most z b (w .asked))) (w .one);
+    covers = below-more (Covered goal ts dist s x) i (λ k g p m e c. omega (arith, d .covers k g p m e c, w .more))
+        (λ p m e c. omega (arith, rows-cover z b (w .asked) m (omega arith) c, w .enough));
+  })
 
-    -- a transition that does not arrive in s asks for nothing
-    pub deep-skip : {i r x : ℕ} → x ≡ r → Deep ts dist s i r → (Arrives ts dist s i → ⊥) → Deep ts dist s (i + 1) x
-    deep-skip {i} {r} q d n =
-        rw q (record {
-          most = d .most;
-          covers = below-more (λ k. Arrives ts dist s k → (m : ℕ) → m < length ts → slack (at ts k) (at ts m) ≤ r) i (d .covers) (λ p. absurd (n p));
-        })
+  -- they are enough
+  pub ready-at : {low n : ℕ} {best : List ℕ} → Deep goal ts dist s low n → Roomy ts s best → Filled ts s best n → ReadyAt goal ts dist s low best
+  ready-at {n = n} d z f = record { ready = λ k under p. record { roomy = z; depth = n; filled = f; covers = d .covers k under p } }
 
-    pub deep-more : {i n r x y : ℕ} → y ≡ x → length ts ≡ n → Deep ts dist s i r → Deeper ts i r n x → Deep ts dist s (i + 1) y
-    deep-more {i} {n} {r} {x} q len d e =
-        rw q (record {
-          most = e .most;
-          covers = below-more (λ k. Arrives ts dist s k → (m : ℕ) → m < length ts → slack (at ts k) (at ts m) ≤ x) i
-              (λ k h p m l. omega (arith, d .covers k h p m l, e .more)) (λ p m l. e .covers m (omega arith));
-        })
+  -- none are asked for: no pair is possible
+  pub deep-nothing : {low : ℕ} → Deep goal ts dist s low 0 → LeastBelow (StartsAt goal ts dist s) low low
+  deep-nothing d = record {
+    within = omega arith;
+    found = λ h. absurd (omega arith);
+    before = λ k h p. let t = p .after .to in omega (arith, d .covers k h (p .arrives) (p .after .m) (end-known goal t) (end-possible goal t));
+  }
 
-    -- they are enough
-    pub ready-at : {low top : ℕ} {best : List ℕ} → Deep ts dist s low top → Roomy ts s best → Filled ts s best (top + 1) → ReadyAt ts dist s low best
-    ready-at {top = top} d z f =
-        record { ready = λ k under p. record { roomy = z; depth = top + 1; filled = f; covers = λ m h. omega (arith, d .covers k under p m h) } }
-
-pub ready-less : {ts : List Transition} {dist best : List ℕ} {s n m : ℕ} → m ≤ n → ReadyAt ts dist s n best → ReadyAt ts dist s m best
+pub ready-less : {goal : Goal} {ts : List Transition} {dist best : List ℕ} {s n m : ℕ} → m ≤ n → ReadyAt goal ts dist s n best → ReadyAt goal ts dist s m best
 ready-less h z = record { ready = λ k under. z .ready k (omega arith) }
 
 -- an arrival, and what the ends answered
 module _ {ts : List Transition} {dist : List ℕ} {s k : ℕ} (p : Arrives ts dist s k) where
-  pub ready-for : {best : List ℕ} → ReadyAt ts dist s (k + 1) best → ReadyFor ts k best
+  pub ready-for : {goal : Goal} {best : List ℕ} → ReadyAt goal ts dist s (k + 1) best → ReadyFor goal ts k best
   ready-for z = rw (p .to) (z .ready k (omega arith) p)
 
   pub is-start : (goal : Goal) (r : Found) → Least (EndsIn goal ts k) r → tagOf the-type r ≡ 0 → StartsAt goal ts dist s k

@@ -1,5 +1,6 @@
 pub mod WalkLaws
 pub mod BestLaws
+pub mod SoonLaws
 pub mod EndLaws
 pub mod NeighbourLaws
 pub mod BackLaws

@@ -11,7 +11,7 @@ use Rattle.model.specs.Shown.{lateGap}
 use Rattle.model.specs.Criterion.{slack}
 use Rattle.criterion.specs.declared.Goal.{Goal}
 use Rattle.criterion.specs.declared.Goal.the-variants.{Turns, Overtakes}
-use Rattle.criterion.specs.Goals.{Meets}
+use Rattle.criterion.specs.Goals.{Meets, Possible}
 use Rattle.walks.specs.Walks.{Walk, Arrives, Among}
 
 -- the number in row a at state e
@@ -67,31 +67,25 @@ pub record Closes (goal : Goal) (k m : Transition) (number : ℕ) : Type 0 where
   pub some : number ≡ suc late
   pub meets : Meets goal k m (m .u) (late + lateGap m)
 
--- rows enough for every end of a pair whose first step k arrives in s
-pub record Ready (ts : List Transition) (s k : ℕ) (best : List ℕ) : Type 0 where
+-- rows enough for every possible end of a pair whose first step k arrives in s
+pub record Ready (goal : Goal) (ts : List Transition) (s k : ℕ) (best : List ℕ) : Type 0 where
   pub roomy : Roomy ts s best
   pub depth : ℕ
   pub filled : Filled ts s best depth
-  pub covers : (m : ℕ) → m < length ts → slack (at ts k) (at ts m) < depth
+  pub covers : (m : ℕ) → m < length ts → Possible goal (at ts k) (at ts m) → slack (at ts k) (at ts m) < depth
 
 -- rows enough for what follows transition k
-abbrev pub ReadyFor : List Transition → ℕ → List ℕ → Type 0
-ReadyFor ts k best = Ready ts (at ts k .to) k best
+abbrev pub ReadyFor : Goal → List Transition → ℕ → List ℕ → Type 0
+ReadyFor goal ts k best = Ready goal ts (at ts k .to) k best
 
 -- rows enough for every transition among the first n that arrives in s
-pub record ReadyAt (ts : List Transition) (dist : List ℕ) (s n : ℕ) (best : List ℕ) : Type 0 where
-  pub ready : (k : ℕ) → k < n → Arrives ts dist s k → Ready ts s k best
+pub record ReadyAt (goal : Goal) (ts : List Transition) (dist : List ℕ) (s n : ℕ) (best : List ℕ) : Type 0 where
+  pub ready : (k : ℕ) → k < n → Arrives ts dist s k → Ready goal ts s k best
 
--- r is at least top and every row that one of the first i transitions asks for as the end of a pair from k
-pub record Deeper (ts : List Transition) (k top i r : ℕ) : Type 0 where
-  pub most : r ≤ 238
-  pub more : top ≤ r
-  pub covers : (m : ℕ) → m < i → slack (at ts k) (at ts m) ≤ r
-
--- r is at least every row that a transition among the first i that arrives in s asks for
-pub record Deep (ts : List Transition) (dist : List ℕ) (s i r : ℕ) : Type 0 where
-  pub most : r ≤ 238
-  pub covers : (k : ℕ) → k < i → Arrives ts dist s k → (m : ℕ) → m < length ts → slack (at ts k) (at ts m) ≤ r
+-- r rows are enough for every possible end of a pair whose first step is among the first i transitions and arrives in s
+pub record Deep (goal : Goal) (ts : List Transition) (dist : List ℕ) (s i r : ℕ) : Type 0 where
+  pub most : r ≤ 239
+  pub covers : (k : ℕ) → k < i → Arrives ts dist s k → (m : ℕ) → m < length ts → Possible goal (at ts k) (at ts m) → slack (at ts k) (at ts m) < r
 
 -- transition j is the last step of a walk that gives the number in row a at e
 pub record Explains (ts : List Transition) (best : List ℕ) (e a j : ℕ) : Type 0 where

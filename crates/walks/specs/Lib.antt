@@ -1,3 +1,4 @@
 pub mod Walks
 pub mod Neighbours
+pub mod Soon
 pub mod Best

@@ -5,6 +5,7 @@ ghost use Rattle.walks.specs.Walks.{LowestStart, WalkOutcome};
 
 mod neighbours;
 mod search;
+mod soon;
 mod sums;
 mod walk;
 

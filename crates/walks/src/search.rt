@@ -1,5 +1,8 @@
 // The search for a pair of what is asked, over the table of sums.
 use crate::Found;
+use crate::soon::Soonest;
+use crate::soon::all_ends;
+use crate::soon::deeper;
 use crate::sums::fill;
 use crate::sums::number;
 use crate::sums::row;
@@ -13,7 +16,8 @@ ghost use Rattle.model.specs.Answers.{Tells};
 ghost use Rattle.table.specs.Fit.{Sound};
 ghost use Rattle.table.specs.Rows.{rows, said};
 ghost use Rattle.walks.specs.Walks.{Arrives, EndsIn, StartsAt, Starts, Least, LeastBelow};
-ghost use Rattle.walks.specs.Best.{Closes, ReadyFor, ReadyAt, Deeper, Deep};
+ghost use Rattle.walks.specs.Soon.{Soon};
+ghost use Rattle.walks.specs.Best.{Closes, ReadyFor, ReadyAt, Deep};
 
 // Whether `last` ends a pair whose first step is `first`, by the number of the walks before it: what is asked is tested here alone.
 fn closes(goal: Goal, first: Row, last: Row, number: u32) -> bool
@@ -37,11 +41,14 @@ fn closes(goal: Goal, first: Row, last: Row, number: u32) -> bool
 
 // Whether m ends a pair whose first step is k.
 fn ends_at(goal: Goal, cells: &Cells, count: usize, best: &[u32], k: usize, m: usize) -> bool
-    requires { ⌜ Sound (now cells) count × (k < count) × (m < count) × ReadyFor (rows (now cells) count) k (now best) ⌝ }
+    requires { ⌜ Sound (now cells) count × (k < count) × (m < count) × ReadyFor goal (rows (now cells) count) k (now best) ⌝ }
     ensures { λ r. ⌜ Tells r (EndsIn goal (rows (now (cells .entry)) count) k m) ⌝ }
 {
     let first = row(cells, count, k);
     let last = row(cells, count, m);
+    if !criterion::possible(goal, first, last) {
+        return false;
+    }
     let x = number(
         best,
         criterion::most_before(first, last),
@@ -52,7 +59,7 @@ fn ends_at(goal: Goal, cells: &Cells, count: usize, best: &[u32], k: usize, m: u
 
 // The least transition that ends a pair whose first step is k.
 pub(crate) fn ends(goal: Goal, cells: &Cells, count: usize, best: &[u32], k: usize) -> Found
-    requires { ⌜ Sound (now cells) count × (k < count) × ReadyFor (rows (now cells) count) k (now best) ⌝ }
+    requires { ⌜ Sound (now cells) count × (k < count) × ReadyFor goal (rows (now cells) count) k (now best) ⌝ }
     ensures { λ r. ⌜ Least (EndsIn goal (rows (now (cells .entry)) count) k) r ⌝ }
 {
     let mut m: usize = 0;
@@ -63,24 +70,6 @@ pub(crate) fn ends(goal: Goal, cells: &Cells, count: usize, best: &[u32], k: usi
         m += 1;
     }
     Found::Nothing
-}
-
-// The greatest of `top` and the rows that the ends of pairs from k ask for.
-pub(crate) fn deeper(cells: &Cells, count: usize, k: usize, top: usize) -> usize
-    requires { ⌜ Sound (now cells) count × (k < count) × (top ≤ 238) ⌝ }
-    ensures { λ r. ⌜ Deeper (rows (now (cells .entry)) count) k top count r ⌝ }
-{
-    let first = row(cells, count, k);
-    let mut deep = top;
-    let mut m: usize = 0;
-    while m < count {
-        let a = criterion::most_before(first, row(cells, count, m));
-        if deep < a {
-            deep = a;
-        }
-        m += 1;
-    }
-    deep
 }
 
 // Whether transition k arrives in s and leaves a marked state.
@@ -98,16 +87,24 @@ fn arrives(cells: &Cells, count: usize, dist: &[u16; 32], s: usize, k: usize) ->
     true
 }
 
-// The greatest row that a transition below low that arrives in s asks for.
-fn depth(cells: &Cells, count: usize, dist: &[u16; 32], s: usize, low: usize) -> usize
-    requires { ⌜ Sound (now cells) count × (low ≤ count) ⌝ }
-    ensures { λ r. ⌜ Deep (rows (now (cells .entry)) count) (now (dist .entry)) s low r ⌝ }
+// How many rows the transitions below low that arrive in s ask for.
+fn depth(
+    goal: Goal,
+    cells: &Cells,
+    count: usize,
+    dist: &[u16; 32],
+    soon: Soonest,
+    s: usize,
+    low: usize,
+) -> usize
+    requires { ⌜ Sound (now cells) count × (low ≤ count) × Soon (rows (now cells) count) count soon ⌝ }
+    ensures { λ r. ⌜ Deep goal (rows (now (cells .entry)) count) (now (dist .entry)) s low r ⌝ }
 {
     let mut top: usize = 0;
     let mut k: usize = 0;
     while k < low {
         if arrives(cells, count, dist, s, k) {
-            top = deeper(cells, count, k, top);
+            top = deeper(goal, row(cells, count, k), soon, top);
         }
         k += 1;
     }
@@ -124,7 +121,7 @@ fn starts(
     s: usize,
     k: usize,
 ) -> bool
-    requires { ⌜ Sound (now cells) count × (k < count) × ReadyAt (rows (now cells) count) (now dist) s (k + 1) (now best) ⌝ }
+    requires { ⌜ Sound (now cells) count × (k < count) × ReadyAt goal (rows (now cells) count) (now dist) s (k + 1) (now best) ⌝ }
     ensures { λ r. ⌜ Tells r (StartsAt goal (rows (now (cells .entry)) count) (now (dist .entry)) s k) ⌝ }
 {
     if !arrives(cells, count, dist, s, k) {
@@ -146,7 +143,7 @@ fn first_start(
     s: usize,
     low: usize,
 ) -> usize
-    requires { ⌜ Sound (now cells) count × (low ≤ count) × ReadyAt (rows (now cells) count) (now dist) s low (now best) ⌝ }
+    requires { ⌜ Sound (now cells) count × (low ≤ count) × ReadyAt goal (rows (now cells) count) (now dist) s low (now best) ⌝ }
     ensures { λ r. ⌜ LeastBelow (StartsAt goal (rows (now (cells .entry)) count) (now (dist .entry)) s) low r ⌝ }
 {
     let mut k: usize = 0;
@@ -159,21 +156,26 @@ fn first_start(
     k
 }
 
-// The same, with the sums from s made as far as they are looked at.
+// The same, with the sums from s made as far as they are looked at; none where no pair is possible.
 fn lower(
     goal: Goal,
     cells: &Cells,
     count: usize,
     dist: &[u16; 32],
+    soon: Soonest,
     best: &mut [u32],
     s: usize,
     low: usize,
 ) -> usize
-    requires { ⌜ Sound (now cells) count × (low ≤ count) × (length (now best) ≡ 7648) × (s < 32) ⌝ }
+    requires { ⌜ Sound (now cells) count × (low ≤ count) × (length (now best) ≡ 7648) × (s < 32)
+        × Soon (rows (now cells) count) count soon ⌝ }
     ensures { λ r. ⌜ LeastBelow (StartsAt goal (rows (now (cells .entry)) count) (now (dist .entry)) s) low r ⌝ }
 {
-    let top = depth(cells, count, dist, s, low);
-    fill(cells, count, s, best, top);
+    let n = depth(goal, cells, count, dist, soon, s, low);
+    if n == 0 {
+        return low;
+    }
+    fill(cells, count, s, best, n - 1);
     first_start(goal, cells, count, dist, best, s, low)
 }
 
@@ -188,10 +190,11 @@ pub(crate) fn lowest_start(
     requires { ⌜ Sound (now cells) count × (length (now best) ≡ 7648) ⌝ }
     ensures { λ r. ⌜ Least (Starts goal (rows (now (cells .entry)) count) (now (dist .entry))) r ⌝ }
 {
+    let soon = all_ends(cells, count);
     let mut low = count;
     let mut s: usize = 0;
     while s < 32 {
-        low = lower(goal, cells, count, dist, best, s, low);
+        low = lower(goal, cells, count, dist, soon, best, s, low);
         s += 1;
     }
     if low < count {

@@ -1,7 +1,8 @@
 // The walk between the two steps of a pair, walked back from its end.
 use crate::Found;
-use crate::search::deeper;
 use crate::search::ends;
+use crate::soon::all_ends;
+use crate::soon::rows_for;
 use crate::sums::fill;
 use crate::sums::number;
 use crate::sums::row;
@@ -117,7 +118,7 @@ fn walk_back(
 
 // The whole sum of lower bounds of the walk from k to the end m that is walked back.
 fn end_sum(goal: Goal, cells: &Cells, count: usize, best: &[u32], k: usize, m: usize) -> usize
-    requires { ⌜ Sound (now cells) count × (k < count) × ReadyFor (rows (now cells) count) k (now best) × EndsIn goal (rows (now cells) count) k m ⌝ }
+    requires { ⌜ Sound (now cells) count × (k < count) × ReadyFor goal (rows (now cells) count) k (now best) × EndsIn goal (rows (now cells) count) k m ⌝ }
     ensures { λ sum. ⌜ EndSum goal (rows (now (cells .entry)) count) k m (now (best .entry)) sum ⌝ }
 {
     let first = row(cells, count, k);
@@ -139,7 +140,7 @@ fn write_pair(
     trace: &mut [u16],
     from: usize,
 ) -> usize
-    requires { ⌜ Sound (now cells) count × (k < count) × ReadyFor (rows (now cells) count) k (now best) × EndsIn goal (rows (now cells) count) k m
+    requires { ⌜ Sound (now cells) count × (k < count) × ReadyFor goal (rows (now cells) count) k (now best) × EndsIn goal (rows (now cells) count) k m
         × (from + 239 ≤ length (now trace)) ⌝ }
     ensures { λ n. ⌜ ShownWalk goal (rows (now (cells .entry)) count) k m from (now (trace .entry)) (now (trace .exit)) n ⌝ }
 {
@@ -150,13 +151,13 @@ fn write_pair(
 }
 
 // The sums of the walks after k, as far as its ends are looked at.
-fn fill_for(cells: &Cells, count: usize, k: usize, best: &mut [u32])
+fn fill_for(goal: Goal, cells: &Cells, count: usize, k: usize, best: &mut [u32])
     requires { ⌜ Sound (now cells) count × (k < count) × (length (now best) ≡ 7648) ⌝ }
-    ensures { λ _. ⌜ ReadyFor (rows (now (cells .entry)) count) k (now (best .exit)) ⌝ }
+    ensures { λ _. ⌜ ReadyFor goal (rows (now (cells .entry)) count) k (now (best .exit)) ⌝ }
 {
-    let s = row(cells, count, k).to as usize;
-    let top = deeper(cells, count, k, 0);
-    fill(cells, count, s, best, top);
+    let first = row(cells, count, k);
+    let n = rows_for(goal, first, all_ends(cells, count));
+    fill(cells, count, first.to as usize, best, n);
 }
 
 // A pair whose first step is k, with the least end, written from place `from` on; 0 where there is none.
@@ -172,7 +173,7 @@ pub(crate) fn show(
     requires { ⌜ Sound (now cells) count × (k < count) × (length (now best) ≡ 7648) × (from + 239 ≤ length (now trace)) ⌝ }
     ensures { λ n. ⌜ ShownIfAny goal (rows (now (cells .entry)) count) k from (now (trace .entry)) (now (trace .exit)) n ⌝ }
 {
-    fill_for(cells, count, k, best);
+    fill_for(goal, cells, count, k, best);
     match ends(goal, cells, count, best, k) {
         Found::At(m) => write_pair(goal, cells, count, best, k, m, trace, from),
         Found::Nothing => 0,

@@ -12,16 +12,19 @@ use Rattle.walks.proofs.search.depth.Statement.{statement}
 use Rattle.walks.proofs.search.depth.Tie as tie
 
 abbrev Inv-loop : tie.InvT-loop
-Inv-loop cells count dist s low top₀ k₀ top k = (k ≤ low) × Deep (rows cells count) dist s k top
+Inv-loop goal cells count dist soon s low top₀ k₀ top k = (k ≤ low) × Deep goal (rows cells count) dist s k top
 
 abbrev μ-loop : tie.MeasureT-loop
-μ-loop cells count dist s low top₀ k₀ top k = low - k
+μ-loop goal cells count dist soon s low top₀ k₀ top k = low - k
 
 loop-holds : tie.Need-loop-holds Inv-loop μ-loop
 loop-holds c = (omega arith, deep-none)
 
 arrives-requires : tie.Need-arrives-requires Inv-loop μ-loop
 arrives-requires c κs = search needs
+
+row-requires : tie.Need-row-requires Inv-loop μ-loop
+row-requires c κs = search needs
 
 deeper-requires : tie.Need-deeper-requires Inv-loop μ-loop
 deeper-requires c κs = search needs
@@ -34,10 +37,11 @@ loop-less c = search needs
 
 loop-again : tie.Need-loop-again Inv-loop μ-loop
 loop-again c =
+    let b = c .before .before .before .before .pre .2 in
     let d = c .before .before .before .loop .inv .1 in
     let r = c .before .arrives in (
       omega arith,
-      ⊎-elim (λ w. deep-more (w .2) (length-rows _ _) d (w .1 .ensures))
+      ⊎-elim (λ w. deep-more (w .3) (w .1 .ensures) (length-rows _ _) b d (w .2 .ensures))
           (λ w. deep-skip (w .1) d (untold (r .result) (r .ensures) (w .0 .left)))
           (c .if1 .came),
     )
@@ -55,6 +59,7 @@ depth-spec =
     μ-loop
     loop-holds
     arrives-requires
+    row-requires
     deeper-requires
     add-k
     loop-less

@@ -1,29 +1,47 @@
 use borrow.Author.Needs.{needs}
 use native.Mathlib.Omega.{arith}
+use mathlib.Core.Path.{_≡_}
+use Prim.Native.Nat.{_+_, _-_}
 use Rattle.walks.proofs.BestLaws.{roomy}
-use Rattle.walks.proofs.EndLaws.{ready-at}
+use Rattle.walks.proofs.EndLaws.{deep-nothing, ready-at}
 use Rattle.walks.proofs.search.lower.Statement.{statement}
 use Rattle.walks.proofs.search.lower.Tie as tie
 
 depth-requires : tie.Need-depth-requires
 depth-requires c κs = search needs
 
+returns : tie.Need-returns
+returns c = deep-nothing (rw (c .if1 .taken) at (c .before .depth .ensures))
+
+sub-fill : tie.Need-sub-fill
+sub-fill c = search needs
+
 fill-requires : tie.Need-fill-requires
 fill-requires c κs = search needs
 
 first-start-requires : tie.Need-first-start-requires
 first-start-requires c κs =
-    let s = c .before .before .before .before .before .before .before .pre in
+    let d = c .before .before .before .before .before .before in
+    let s = d .before .before .pre in
     let f = c .before .before .before .fill in
     let z = roomy {best = f .last .1 .1 .1 .0} (s .0) (s .3) (omega (arith, f .kept .1 .1 .1 .0)) in
-    (s .0, s .1, ready-at (c .before .before .before .before .before .depth .ensures) z (f .ensures))
+    let e : d .depth .result - 1 + 1 ≡ d .depth .result = omega arith in
+    (s .0, s .1, ready-at (d .depth .ensures) z (rw e at (f .ensures)))
 
 same-length : tie.Need-same-length
 same-length c = search needs
 
-returns : tie.Need-returns
-returns c = search needs
+returns-2 : tie.Need-returns-2
+returns-2 c = search needs
 
 pub lower-spec : {M : Type 1} → statement M
 lower-spec =
-    tie.close (tie.spec depth-requires fill-requires first-start-requires same-length returns)
+    tie.close
+    (tie.spec
+    depth-requires
+    returns
+    sub-fill
+    fill-requires
+    first-start-requires
+    same-length
+    returns-2)
