@@ -1,5 +1,5 @@
 -- The words of a night in bytes, and that each is a replay on its own bytes.
-use mathlib.Core.Path.{_≡_, refl, ap, _∙_}
+use mathlib.Core.Path.{_≡_, refl, _∙_}
 use mathlib.Core.List.{List, [], _∷_, _++_}
 use mathlib.Core.Logic.{inl, inr}
 use Prim.Native.Nat.{ℕ, _+_, _*_, _-_, _%_, _/_, _≤_, _<_}
@@ -10,7 +10,7 @@ use lib.Seq.{drop-drop}
 use Rattle.model.specs.Answers.{Fields}
 use Rattle.model.specs.Table.{Machine, Valid}
 use Rattle.model.specs.Trace.{Handed}
-use Rattle.wire.specs.Bytes.{le, bytes, placed, wholes}
+use Rattle.wire.specs.Bytes.{le, bytes, placed, Bytes, wholes}
 use Rattle.wire.proofs.Bytes.{length-bytes, placed-fits}
 use Rattle.table.specs.declared.Table.{Table}
 use Rattle.table.specs.declared.Refusal.{Refusal}
@@ -22,17 +22,17 @@ use Rattle.table.specs.Rows.{machineOf}
 use Rattle.table.specs.Tests.{Test, Passes, refuses, answers, Tested}
 use Rattle.table.proofs.TestLaws.{tested-passes, tested-fails}
 use Rattle.trace.specs.Named.{TraceIn}
-use Rattle.trace.proofs.TraceLaws.{trace-handed}
 use Rattle.replay.specs.Play.{replayedFields}
-use Rattle.places.specs.Places.{fitted, handedOn, Decoded}
-use Rattle.places.proofs.PlaceLaws.{length-wholes, decoded-take, trace-whole, whole-trace, trace-count}
+use Rattle.places.specs.Places.{Decoded}
+use Rattle.places.proofs.PlaceLaws.{length-wholes}
+use Rattle.on_bytes.proofs.ByteLaws.{untraced, traced, traced-whole, traced-count}
 use Rattle.night.specs.declared.Words.the-variants.{Played, Refused}
 use Rattle.night.specs.Night.{wordsFields, answerOf, part}
 use Rattle.night.proofs.PartLaws.{put, next-fits, length-part, one-word}
 use Rattle.night.proofs.NightLaws.{answer-first}
 use Rattle.night_bytes.specs.NightBytes.{sizeTests, AllOnMachine, WordsOnMachine}
 use Rattle.night_bytes.specs.Runs.{Lent, WordWritten, WordsWritten}
-use Rattle.night_bytes.proofs.WordLaws.{word-bytes}
+use Rattle.night_bytes.proofs.WordLaws.{bytes-part, word-bytes}
 
 -- numbers written at the places of word w
 placed-put : (l new : List ℕ) (n w : ℕ) (fits : w * n + n ≤ length l) (size : length new ≡ n) → placed l (w * n) new ≡ put l new n w fits size
@@ -123,9 +123,6 @@ module _ (t : Table) (valid : Valid (machineOf t)) (trace starts stamps o₀ d�
   abbrev mach : Machine
   mach = machineOf t
 
-  abbrev nums : List ℕ
-  nums = handedOn 2 trace
-
   abbrev steps : ℕ
   steps = length trace / 2
 
@@ -135,29 +132,25 @@ module _ (t : Table) (valid : Valid (machineOf t)) (trace starts stamps o₀ d�
   abbrev Out : Fields → List ℕ → List ℕ → List ℕ → Type 0
   Out f o d m = WordsOnMachine mach trace starts stamps o₀ d₀ m₀ f o d m
 
-  named : take k s ≡ nums
-  named = decoded-take 2 trace s₀ got ∙ ap (λ r. fitted r 2 trace) long
-
   pub no-trace : (TraceIn (t .cells) (t .count) (take k s) → ⊥) → Out (wordsFields (Refused NoTrace)) o₀ d₀ m₀
-  no-trace x =
-      refuses refl (inl ((λ h. x (rw named (trace-handed t nums valid .1 (whole-trace (mach .transitions) trace h)))), refl, refl)) (refl, refl, refl)
+  no-trace x = refuses refl (inl (untraced t valid trace got long x, refl, refl)) (refl, refl, refl)
 
-  module _ (traced : TraceIn (t .cells) (t .count) (take k s)) where
-    handed : Handed (mach .transitions) nums
-    handed = trace-handed t nums valid .0 (rw named at traced)
-
-    count : length nums ≡ steps
-    count = trace-count (mach .transitions) trace handed
+  module _ (named : TraceIn (t .cells) (t .count) (take k s)) where
+    handed : (length trace % 2 ≡ 0) × Handed (mach .transitions) (wholes 2 trace)
+    handed = traced t valid trace got long named
 
     read : k ≡ steps
-    read = got .count ∙ ap (λ r. length (fitted r 2 trace)) long ∙ count
+    read = traced-count t valid trace got long named
+
+    few : steps ≤ 512
+    few = omega (arith, handed .1 .most, length-wholes 2 trace)
 
     pub most : k ≤ 512
-    most = omega (arith, read, count, handed .most)
+    most = omega (arith, read, few)
 
     pub no-size : {a : Checked} {r : Refusal} → a ≡ checked.Refused r → Tested (sizes k) (checkedFields a) → Out (wordsFields (Refused r)) o₀ d₀ m₀
     no-size e x =
-        refuses refl (inr (trace-whole (mach .transitions) trace handed, tested-fails (sizes steps) e (rw read at x))) (refl, refl, refl)
+        refuses refl (inr (handed, tested-fails (sizes steps) e (rw read at x))) (refl, refl, refl)
 
     pub fits : {a : Checked} → a ≡ checked.Sound → Tested (sizes k) (checkedFields a) → Passes (sizes steps)
     fits e x = tested-passes (sizes steps) (omega arith) e (rw read at x)
@@ -170,7 +163,7 @@ module _ (t : Table) (valid : Valid (machineOf t)) (trace starts stamps o₀ d�
       lent =
           let room = p .1 .0 in
           record {
-            most = omega (arith, count, handed .most);
+            most = few;
             stamps-bytes = omega (arith, scaled 4 (length stamps / 4) (omega arith));
             order-bytes = omega (arith, scaled 2 (length (wholes 2 o₀)) (room .order-room), length-wholes 2 o₀);
             due-bytes = omega (arith, scaled 4 (length (wholes 4 d₀)) (room .due-room), length-wholes 4 d₀);
@@ -178,15 +171,15 @@ module _ (t : Table) (valid : Valid (machineOf t)) (trace starts stamps o₀ d�
           }
 
       pub lends : Lent (length (take k s)) (length starts / 4) stamps o₀ d₀ m₀
-      lends = rw (named, count) lent
+      lends = rw (traced-whole t valid trace got long named, length-wholes 2 trace) lent
 
-      pub all-written : {o d m : List ℕ} → WordsWritten (t .cells) (take k s) starts stamps (length starts / 4) o₀ d₀ m₀ o d m
-          → Out (wordsFields (Played (length starts / 4))) o d m
-      all-written {o} {d} {m} x = answers (trace-whole (mach .transitions) trace handed, p) (refl, each)
+      pub all-written : {o d m : List ℕ} → Bytes o₀ → Bytes d₀ → Bytes o → Bytes d
+          → WordsWritten (t .cells) (take k s) starts stamps (length starts / 4) o₀ d₀ m₀ o d m → Out (wordsFields (Played (length starts / 4))) o d m
+      all-written {o} {d} {m} bo₀ bd₀ bo bd x = answers (handed, p) (refl, each)
         where
           each : AllOnMachine mach trace starts stamps o₀ d₀ m₀ o d m
           each =
-              let y = rw (named, count) at x in
+              let y = rw (traced-whole t valid trace got long named, length-wholes 2 trace) at x in
               record {
                 word = λ w h.
                     let one = y .word w h in
@@ -195,10 +188,12 @@ module _ (t : Table) (valid : Valid (machineOf t)) (trace starts stamps o₀ d�
                     record {
                       said = replayedFields (answerOf (one .0));
                       outcome = word-bytes t valid trace handed (le 4 starts (w * 4)) (part (steps * 4) w stamps) (part (steps * 2) w o₀)
-                          (part (steps * 4) w d₀) steps count
+                          (part (steps * 4) w d₀)
                           (length-part (steps * 4) w stamps (omega (arith, lent .stamps-bytes)))
                           (length-part (steps * 2) w o₀ (omega (arith, lent .order-bytes)))
-                          (length-part (steps * 4) w d₀ (omega (arith, lent .due-bytes))) (one .0) (one .2);
+                          (length-part (steps * 4) w d₀ (omega (arith, lent .due-bytes))) (one .0)
+                          (bytes-part (steps * 2) w o₀ bo₀) (bytes-part (steps * 4) w d₀ bd₀) (bytes-part (steps * 2) w o bo)
+                          (bytes-part (steps * 4) w d bd) (one .2);
                       marked = rw (answer-first (one .0)) (one .1);
                     };
                 order-rest = y .order-rest;

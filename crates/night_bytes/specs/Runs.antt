@@ -1,22 +1,18 @@
--- What runs behind a night on bytes: a word on places of its own, written back to its bytes.
+-- What runs behind a night on bytes: each word within its own bytes.
 use mathlib.Core.Path.{_≡_}
 use mathlib.Core.List.{List, [], _∷_}
 use Prim.Native.Nat.{ℕ, _*_, _≤_}
 use lib.ListN.{length}
 use Rattle.wire.specs.Bytes.{le, bytes, wholes}
 use Rattle.replay.specs.Laid.{WordRun}
-use Rattle.on_bytes.specs.ValueCall.{wroteBack}
-use Rattle.night.specs.Night.{answerOf, part, EachWord}
+use Rattle.laid_bytes.specs.OnPlaces.{OnPlaces}
+use Rattle.night.specs.Night.{part, EachWord}
 
--- the bytes of one word of n steps, and places for it
-pub record Sized (n : ℕ) (stamps order₀ due₀ read ranked times : List ℕ) : Type 0 where
+-- the stamps of one word of n steps, and places for them
+pub record Sized (n : ℕ) (stamps read : List ℕ) : Type 0 where
   pub most : n ≤ 512
   pub stamps-bytes : length stamps ≡ n * 4
-  pub order-bytes : length order₀ ≡ n * 2
-  pub due-bytes : length due₀ ≡ n * 4
   pub read-long : length read ≡ 512
-  pub ranked-long : length ranked ≡ 512
-  pub times-long : length times ≡ 512
 
 -- the bytes of words of n steps, laid end to end
 pub record Lent (n words : ℕ) (stamps order₀ due₀ marks₀ : List ℕ) : Type 0 where
@@ -26,17 +22,10 @@ pub record Lent (n words : ℕ) (stamps order₀ due₀ marks₀ : List ℕ) : T
   pub due-bytes : words * (n * 4) ≤ length due₀
   pub marks-bytes : words * 2 ≤ length marks₀
 
--- one word on places of its own, written back if it is accepted
-pub record WordWritten (cells trace : List ℕ) (start : ℕ) (stamps order₀ due₀ : List ℕ) (mark : ℕ) (order due : List ℕ) : Type 0 where
-  pub o₀ : List ℕ
-  pub d₀ : List ℕ
-  pub o : List ℕ
-  pub d : List ℕ
-  pub order-room : length o₀ ≡ length trace
-  pub due-room : length d₀ ≡ length trace
-  pub run : WordRun cells trace start (wholes 4 stamps) o₀ d₀ mark o d
-  pub orders : order ≡ wroteBack 2 (answerOf mark) (length trace) o order₀
-  pub dues : due ≡ wroteBack 4 (answerOf mark) (length trace) d due₀
+-- one word, its stamps in bytes, on the whole places of its own bytes
+abbrev pub WordWritten : List ℕ → List ℕ → ℕ → List ℕ → List ℕ → List ℕ → ℕ → List ℕ → List ℕ → Type 0
+WordWritten cells trace start stamps order₀ due₀ mark order due =
+    OnPlaces (λ o₀ d₀ o d. WordRun cells trace start (wholes 4 stamps) o₀ d₀ mark o d) order₀ due₀ order due
 
 -- the first words
 abbrev pub WordsWritten : List ℕ → List ℕ → List ℕ → List ℕ → ℕ → List ℕ → List ℕ → List ℕ → List ℕ → List ℕ → List ℕ → Type 0

@@ -55,7 +55,7 @@ fn measured(
     Checked::Sound
 }
 
-// One word on its own bytes: decoded, played, and written back unless a step is outside its guard.
+// One word on its own bytes: its stamps decoded, and played within its bytes of the order and of the due times.
 fn play_one(
     cells: &Cells,
     trace: &[u16],
@@ -64,30 +64,14 @@ fn play_one(
     order: &mut [u8],
     due: &mut [u8],
     read: &mut [u32],
-    ranked: &mut [u16],
-    times: &mut [u32],
 ) -> u16
-    requires { ⌜ Sized (length (now trace)) (now stamps) (now order) (now due) (now read) (now ranked) (now times) ⌝ }
+    requires { ⌜ Sized (length (now trace)) (now stamps) (now read) ⌝ }
     ensures { λ mark. ⌜ WordWritten
         (now (cells .entry)) (now (trace .entry)) start (now (stamps .entry)) (now (order .entry)) (now (due .entry))
         mark (now (order .exit)) (now (due .exit)) ⌝ }
 {
-    let n = trace.len();
     let k = places::fours_in(stamps, read);
-    let mark = replay::play_word(
-        cells,
-        trace,
-        start,
-        &read[..k],
-        &mut ranked[..n],
-        &mut times[..n],
-    );
-    if 0 < mark {
-        return mark;
-    }
-    places::put_back_twos(order, ranked, n);
-    places::put_back_fours(due, times, n);
-    mark
+    laid_bytes::play_word(cells, trace, start, &read[..k], order, due)
 }
 
 // Every word in turn on its own bytes, its mark beside it.
@@ -106,8 +90,6 @@ fn play_all(
         (now (order .entry)) (now (due .entry)) (now (marks .entry)) (now (order .exit)) (now (due .exit)) (now (marks .exit)) ⌝ }
 {
     let mut read = [0u32; 512];
-    let mut ranked = [0u16; 512];
-    let mut times = [0u32; 512];
     let words = starts.len() / 4;
     let mut two: usize = 0;
     let mut four: usize = 0;
@@ -124,8 +106,6 @@ fn play_all(
             &mut order[two..twos],
             &mut due[four..fours],
             &mut read,
-            &mut ranked,
-            &mut times,
         );
         wire::put_twos(marks, w * 2, &[mark; 1]);
         two = twos;

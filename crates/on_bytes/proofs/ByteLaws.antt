@@ -1,188 +1,204 @@
--- Replay on bytes by the call on values.
+-- Replay on bytes: each way out of its tests, and a word that is played on the whole places.
 use mathlib.Core.Path.{_≡_, refl, sym, ap, _∙_}
+use mathlib.Core.Logic.{inl, inr}
 use mathlib.Core.List.{List, _++_, map}
-use Prim.Native.Nat.{ℕ, _*_, _/_, min, _≤_}
+use Prim.Native.Nat.{ℕ, _%_, _/_, _≤_}
 use native.Mathlib.Omega.{arith}
-use lib.ListN.{length, take, drop, length-map, length-append, length-take}
-use lib.Seq.{take-append-le}
-use Rattle.model.specs.Table.{Transition, Machine, Valid}
-use Rattle.model.specs.Trace.{steps}
-use Rattle.model.specs.Order.{Response}
-use Rattle.model.specs.Stamps.{gapsFrom, wordFrom}
-use Rattle.wire.specs.Bytes.{bytes, placed, wholes}
+use lib.ListN.{length, take, length-map}
+use Rattle.model.specs.Answers.{Fields}
+use Rattle.model.specs.Table.{Machine, Valid}
+use Rattle.model.specs.Trace.{Handed, steps}
+use Rattle.model.specs.Stamps.{gapsFrom}
+use Rattle.wire.specs.Bytes.{Bytes, wholes}
 use Rattle.table.specs.declared.Table.{Table}
-use Rattle.table.specs.declared.Refusal.{Refusal}
+use Rattle.table.specs.declared.Refusal.the-variants.{NoTrace, Uneven, NoRoom, Outside}
 use Rattle.table.specs.Rows.{machineOf}
-use Rattle.table.specs.Tests.{Test, Passes, Fails, refuses, answers, afterTable}
-use Rattle.replay.specs.declared.Replayed.{Replayed}
+use Rattle.table.specs.Tests.{Test, Passes, Fails, refuses, answers}
+use Rattle.table.proofs.TestLaws.{passes-append, fails-back, valid-passes, valid-fails}
+use Rattle.trace.specs.Named.{TraceIn}
+use Rattle.trace.proofs.TraceLaws.{trace-handed}
 use Rattle.replay.specs.declared.Replayed.the-variants.{Played, Refused}
-use Rattle.replay.specs.Play.{replayedFields, ownTests, gapTests, replayTests, Plays, ReplayOutcome}
-use Rattle.replay.proofs.ReplayLaws.{all-first, passed-handed, passed-stamped}
+use Rattle.replay.specs.Laid.{WordRun}
+use Rattle.replay.specs.Play.{replayedFields, ownTests, gapTests, ReplayOutcome}
+use Rattle.replay.proofs.ReplayLaws as replay
 use Rattle.replay.proofs.OutcomeLaws.{unplayed, plays, plays-tested, plays-length}
+use Rattle.laid_bytes.specs.OnPlaces.{OnPlaces}
+use Rattle.laid_bytes.proofs.WholeLaws.{same-bytes, over-bytes}
 use Rattle.places.specs.Places.{fitted, handedOn, Decoded}
-use Rattle.places.proofs.PlaceLaws.{decoded-take, handed-whole, handed-count, count-handed, trace-whole, whole-trace, trace-count, back}
-use Rattle.places.proofs.AgreeLaws.{Agree, agree-passes, agree-fails, agree-self, after-passes, after-fails}
-use Rattle.on_bytes.specs.Replays.{bytesTests, ReplayOnMachine}
-use Rattle.on_bytes.specs.ValueCall.{wroteBack, Called}
+use Rattle.places.proofs.PlaceLaws.{length-wholes, whole-all, decoded-take, handed-whole, handed-count, count-handed, trace-whole, whole-trace, trace-count}
+use Rattle.on_bytes.specs.Replays.{sizesTests, ReplayOnMachine}
 
--- a replay that is played fills the places of its steps
-pub plays-long : (m : Machine) (trace : List ℕ) (start : ℕ) (stamps o₀ d₀ o d : List ℕ) → ReplayOutcome m trace start stamps o₀ d₀ (replayedFields Played) o d
-    → (length trace ≤ length o) × (length trace ≤ length d)
-plays-long m trace start stamps o₀ d₀ o d x =
-    let k = plays m trace start stamps o₀ d₀ o d x in
-    let n = plays-length m trace start stamps o₀ d₀ o d x in
-    (filled (λ r. r .step) (k .responses) n o o₀ (k .orders), filled (λ r. r .time) (k .responses) n d d₀ (k .dues))
-  where
-    filled : (g : Response → ℕ) (rs : List Response) → length rs ≡ length trace → (b b₀ : List ℕ) → b ≡ map g rs ++ drop (length trace) b₀
-        → length trace ≤ length b
-    filled g rs n b b₀ e = rw e (simp (length-append, length-map) (omega arith))
+-- with a table that was read: a trace in bytes, and a word's stamps and places
+module _ (t : Table) (valid : Valid (machineOf t)) (trace : List ℕ) (start : ℕ) (stamps order₀ due₀ : List ℕ) where
+  abbrev m : Machine
+  m = machineOf t
 
--- the call on values, made with the first places of two longer lists
-module _ (t : Table) (trace : List ℕ) (start : ℕ) (stamps order₀ due₀ ranked times : List ℕ) (room late : ℕ)
-    (order-room : room ≡ min (length order₀ / 2) 512) (due-room : late ≡ min (length due₀ / 4) 512)
-    (order-long : length ranked ≡ 512) (due-long : length times ≡ 512) {answer : Replayed} (o d : List ℕ)
-    (outcome : ReplayOutcome (machineOf t) trace start stamps (take room ranked) (take late times) (replayedFields answer) o d) where
-  pub called-refused : {r : Refusal} → answer ≡ Refused r → Called t trace start stamps order₀ due₀ (Refused r) order₀ due₀
-  called-refused e = record {
-    o₀ = take room ranked;
-    d₀ = take late times;
-    o = o;
-    d = d;
-    order-room = simp length-take (omega arith);
-    due-room = simp length-take (omega arith);
-    outcome = rw e at outcome;
-    orders = refl;
-    dues = refl;
-  }
-
-  pub called-played : answer ≡ Played → (more rest order due : List ℕ) → order ≡ placed order₀ 0 (bytes 2 (take (length trace) (o ++ more)))
-      → due ≡ placed due₀ 0 (bytes 4 (take (length trace) (d ++ rest))) → Called t trace start stamps order₀ due₀ Played order due
-  called-played q more rest order due e f =
-      let x : ReplayOutcome (machineOf t) trace start stamps (take room ranked) (take late times) (replayedFields Played) o d = rw q at outcome in
-      let l = plays-long (machineOf t) trace start stamps (take room ranked) (take late times) o d x in
-      record {
-        o₀ = take room ranked;
-        d₀ = take late times;
-        o = o;
-        d = d;
-        order-room = simp length-take (omega arith);
-        due-room = simp length-take (omega arith);
-        outcome = x;
-        orders = rw (take-append-le (length trace) o more (l .0)) at e;
-        dues = rw (take-append-le (length trace) d rest (l .1)) at f;
-      }
-
-module _ (m : Machine) (valid : Valid m) (trace : List ℕ) (start : ℕ) (stamps order₀ due₀ o₀ d₀ : List ℕ)
-    (order-room : length o₀ ≡ min (length order₀ / 2) 512) (due-room : length d₀ ≡ min (length due₀ / 4) 512) where
   abbrev nums : List ℕ
-  nums = handedOn 2 trace
+  nums = wholes 2 trace
 
   abbrev marks : List ℕ
-  marks = handedOn 4 stamps
+  marks = wholes 4 stamps
 
-  abbrev tests : List Test
-  tests = bytesTests m trace start stamps order₀ due₀
+  abbrev Out : Fields → List ℕ → List ℕ → Type 0
+  Out f o d = ReplayOnMachine m trace start stamps order₀ due₀ f o d
 
-  abbrev ts : List Transition
-  ts = m .transitions
+  abbrev Traced : Type 0
+  Traced = (length trace % 2 ≡ 0) × Handed (m .transitions) nums
 
-  abbrev after : List Test
-  after = ownTests m nums marks o₀ d₀ ++ gapTests 0 (steps ts nums) (gapsFrom start marks)
+  abbrev Even : Type 0
+  Even = (length stamps % 4 ≡ 0) × (length stamps / 4 ≡ length trace / 2)
 
-  -- a trace and stamps that are handed on are whole
-  nums-whole : 1 ≤ length nums → nums ≡ wholes 2 trace
-  nums-whole h = handed-whole 2 trace h .is
+  abbrev Roomy : Type 0
+  Roomy = (length trace / 2 ≤ length order₀ / 2) × (length trace / 2 ≤ length due₀ / 4)
 
-  marks-whole : 1 ≤ length nums → length marks ≡ length nums → marks ≡ wholes 4 stamps
-  marks-whole h e = handed-whole 4 stamps (omega arith) .is
+  pub no-trace : (Traced → ⊥) → Out (replayedFields (Refused NoTrace)) order₀ due₀
+  no-trace x = refuses refl (inl (x, refl, refl)) (refl, refl)
 
-  -- the call on values tests what the bytes are to be tested for
-  agree : Agree after tests
-  agree = (
-    refl,
-    refl,
-    trace-whole ts trace,
-    whole-trace ts trace,
-    λ h.
-        let n : length nums ≡ length trace / 2 = trace-count ts trace h in
-        let some : 1 ≤ length trace / 2 = omega (arith, h .some) in
-        let most : length trace / 2 ≤ 512 = omega (arith, h .most) in (
-          refl,
-          refl,
-          (λ e. handed-count 4 stamps (length trace / 2) some (e ∙ n)),
-          (λ p. count-handed 4 stamps (length trace / 2) most p ∙ sym n),
-          λ e. (
+  module _ (traced : Traced) where
+    pub uneven : (Even → ⊥) → Out (replayedFields (Refused Uneven)) order₀ due₀
+    uneven x = refuses refl (inr (traced, inl (x, refl, refl))) (refl, refl)
+
+    pub cramped : Even → (Roomy → ⊥) → Out (replayedFields (Refused NoRoom)) order₀ due₀
+    cramped e x = refuses refl (inr (traced, inr (e, inl (x, refl, refl)))) (refl, refl)
+
+    -- played within the lent bytes
+    module _ (even : Even) (roomy : Roomy) (bo₀ : Bytes order₀) (bd₀ : Bytes due₀) {order due : List ℕ} (bo : Bytes order) (bd : Bytes due) {mark : ℕ}
+        (run : OnPlaces (λ o₀ d₀ o d. WordRun (t .cells) nums start marks o₀ d₀ mark o d) order₀ due₀ order due) where
+      abbrev o₀ : List ℕ
+      o₀ = wholes 2 order₀
+
+      abbrev d₀ : List ℕ
+      d₀ = wholes 4 due₀
+
+      abbrev sizes : List Test
+      sizes = sizesTests m trace stamps order₀ due₀
+
+      abbrev own : List Test
+      own = ownTests m nums marks o₀ d₀
+
+      abbrev gaps : List Test
+      gaps = gapTests 0 (steps (m .transitions) nums) (gapsFrom start marks)
+
+      abbrev Valued : Fields → Type 0
+      Valued f = ReplayOutcome m nums start marks o₀ d₀ f (wholes 2 order) (wholes 4 due)
+
+      -- the call on values passes its tests on the whole places
+      own-passed : Passes own
+      own-passed =
+          let n = length-wholes 2 trace in (
+            traced .1,
+            (
+              length-wholes 4 stamps ∙ omega arith,
+              ((omega (arith, length-wholes 2 order₀), omega (arith, length-wholes 4 due₀)), tt),
+            ),
+          )
+
+      passed : Passes (replay.first m nums start marks o₀ d₀)
+      passed = valid-passes m valid own own-passed
+
+      sizes-passed : Passes sizes
+      sizes-passed = (traced, (even, (roomy, tt)))
+
+      pub word-stopped : 1 ≤ mark → Out (replayedFields (Refused (Outside mark))) order due
+      word-stopped h =
+          let x : Valued (replayedFields (Refused (Outside mark))) = replay.refuses-gap t nums start marks o₀ d₀ passed (run .places) h in
+          let u = unplayed (Outside mark) x in
+          let outside : Fails gaps 9 mark = fails-back own gaps 9 mark own-passed .0 (valid-fails m valid (own ++ gaps) 9 mark .0 (u .0)) in
+          refuses refl (fails-back sizes gaps 9 mark sizes-passed .1 outside)
+          (same-bytes 2 bo bo₀ (u .1 .0) (run .order-rest), same-bytes 4 bd bd₀ (u .1 .1) (run .due-rest))
+
+      pub word-played : mark ≡ 0 → Out (replayedFields Played) order due
+      word-played z =
+          let x : Valued (replayedFields Played) = replay.plays t nums start marks o₀ d₀ passed (run .places) z in
+          let k = plays m nums start marks o₀ d₀ (wholes 2 order) (wholes 4 due) x in
+          let all : length (k .responses) ≡ length trace / 2 =
+          plays-length m nums start marks o₀ d₀ (wholes 2 order) (wholes 4 due) x ∙ length-wholes 2 trace in
+          let inside : Passes gaps = passes-append own gaps .0 (plays-tested m nums start marks o₀ d₀ (wholes 2 order) (wholes 4 due) x .1 .1 .1) .1 in
+          answers (passes-append sizes gaps .1 (sizes-passed, inside)) (
             refl,
-            refl,
-            (λ r. (omega arith, omega arith)),
-            (λ r. (omega arith, omega arith)),
-            λ r. rw (nums-whole (h .some), marks-whole (h .some) e) (agree-self (gapTests 0 (steps ts (wholes 2 trace)) (gapsFrom start (wholes 4 stamps)))),
-          ),
-        ),
-  )
+            record {
+              activates = k .activates;
+              responses = k .responses;
+              converts = k .converts;
+              orders = over-bytes 2 order order₀ bo bo₀ (length trace / 2) (map (λ r. r .step) (k .responses))
+                  (length-map (k .responses) (λ r. r .step) ∙ all) (roomy .0) (rw (length-wholes 2 trace) at (k .orders)) (run .order-rest);
+              dues = over-bytes 4 due due₀ bd bd₀ (length trace / 2) (map (λ r. r .time) (k .responses))
+                  (length-map (k .responses) (λ r. r .time) ∙ all) (roomy .1) (rw (length-wholes 2 trace) at (k .dues)) (run .due-rest);
+            },
+          )
 
-  passes : Passes (replayTests m nums start marks o₀ d₀) → Passes tests
-  passes p = agree-passes after tests agree (after-passes m valid after p)
+-- a trace decoded into 512 places: the trace in bytes, told by the test of the numbers
+module _ (t : Table) (valid : Valid (machineOf t)) (trace : List ℕ) {n : ℕ} {s₀ s : List ℕ} (got : Decoded 2 trace s₀ n s) (long : length s₀ ≡ 512) where
+  fit : take n s ≡ handedOn 2 trace
+  fit = decoded-take 2 trace s₀ got ∙ ap (λ r. fitted r 2 trace) long
 
-  fails : (n p : ℕ) → Fails (replayTests m nums start marks o₀ d₀) n p → Fails tests n p
-  fails n p f = agree-fails after tests n p agree (after-fails m valid after n p f)
+  handed-on : TraceIn (t .cells) (t .count) (take n s) → Handed (machineOf t .transitions) (handedOn 2 trace)
+  handed-on x = trace-handed t (handedOn 2 trace) valid .0 (rw fit at x)
 
-  refused : (r : Refusal) {o d order due : List ℕ} → ReplayOutcome m nums start marks o₀ d₀ (replayedFields (Refused r)) o d → order ≡ order₀ → due ≡ due₀
-      → ReplayOnMachine m trace start stamps order₀ due₀ (replayedFields (Refused r)) order due
-  refused r x e f = refuses refl (fails _ _ (unplayed r x .0)) (e, f)
+  pub untraced : (TraceIn (t .cells) (t .count) (take n s) → ⊥) → (length trace % 2 ≡ 0) × Handed (machineOf t .transitions) (wholes 2 trace) → ⊥
+  untraced x h = x (rw fit (trace-handed t (handedOn 2 trace) valid .1 (whole-trace (machineOf t .transitions) trace h)))
 
-  module _ {o d : List ℕ} (shown : Passes (replayTests m nums start marks o₀ d₀))
-      (k : Plays (steps ts nums) (wordFrom (steps ts nums) start marks) (λ l. o ≡ l ++ drop (length nums) o₀) (λ l. d ≡ l ++ drop (length nums) d₀))
-      (all : length (k .responses) ≡ length nums) where
-    first : Passes (afterTable m (ownTests m nums marks o₀ d₀))
-    first = all-first m nums start marks o₀ d₀ shown
+  pub traced : TraceIn (t .cells) (t .count) (take n s) → (length trace % 2 ≡ 0) × Handed (machineOf t .transitions) (wholes 2 trace)
+  traced x = trace-whole (machineOf t .transitions) trace (handed-on x)
 
-    n : length nums ≡ length trace / 2
-    n = trace-count ts trace (passed-handed m nums start marks o₀ d₀ first)
+  module _ (x : TraceIn (t .cells) (t .count) (take n s)) where
+    pub traced-whole : take n s ≡ wholes 2 trace
+    traced-whole = fit ∙ handed-whole 2 trace (handed-on x .some) .is
 
-    wrote : (w : ℕ) (g : Response → ℕ) (b b₀ l : List ℕ) → length trace / 2 * w ≤ length l → b ≡ map g (k .responses) ++ drop (length nums) b₀
-        → wroteBack w Played (length nums) b l ≡ bytes w (map g (k .responses)) ++ drop (w * (length trace / 2)) l
-    wrote w g b b₀ l h q =
-        let long : length (map g (k .responses)) ≡ length trace / 2 = length-map (k .responses) g ∙ all ∙ n in
-        rw (n, q) (back w (length trace / 2) (map g (k .responses)) (drop (length nums) b₀) l long h)
+    pub traced-count : n ≡ length trace / 2
+    traced-count = got .count ∙ ap (λ r. length (fitted r 2 trace)) long ∙ trace-count (machineOf t .transitions) trace (handed-on x)
 
-    played-on : {order due : List ℕ} → order ≡ wroteBack 2 Played (length nums) o order₀ → due ≡ wroteBack 4 Played (length nums) d due₀
-        → ReplayOnMachine m trace start stamps order₀ due₀ (replayedFields Played) order due
-    played-on e f =
-        let some = passed-handed m nums start marks o₀ d₀ first .some in
-        let wn = nums-whole some in
-        let wm = marks-whole some (passed-stamped m nums start marks o₀ d₀ first) in
-        let few = passes shown .1 .1 .0 in
-        answers (passes shown) (
-          refl,
-          record {
-            activates = rw (wn, wm) at (k .activates);
-            responses = k .responses;
-            converts = rw (wn, wm) at (k .converts);
-            orders = e ∙ wrote 2 (λ y. y .step) o o₀ order₀ (omega arith) (k .orders);
-            dues = f ∙ wrote 4 (λ y. y .time) d d₀ due₀ (omega arith) (k .dues);
-          },
-        )
+-- stamps decoded into 512 places, for a trace of n steps
+module _ (stamps : List ℕ) (n : ℕ) {k : ℕ} {m₀ marks : List ℕ} (got : Decoded 4 stamps m₀ k marks) (long : length m₀ ≡ 512) where
+  told : k ≡ length (handedOn 4 stamps)
+  told = got .count ∙ ap (λ r. length (fitted r 4 stamps)) long
 
--- what the call on values answers is what is to be answered on bytes
-module _ (t : Table) (valid : Valid (machineOf t)) (trace : List ℕ) (start : ℕ) (stamps order₀ due₀ : List ℕ) where
-  pub answered : (answer : Replayed) (order due : List ℕ) → Called t (handedOn 2 trace) start (handedOn 4 stamps) order₀ due₀ answer order due
-      → ReplayOnMachine (machineOf t) trace start stamps order₀ due₀ (replayedFields answer) order due
-  answered Played order due x =
-      let m : Machine = machineOf t in
-      let nums : List ℕ = handedOn 2 trace in
-      let marks : List ℕ = handedOn 4 stamps in
-      played-on m valid trace start stamps order₀ due₀ (x .o₀) (x .d₀) (x .order-room) (x .due-room)
-      (plays-tested m nums start marks (x .o₀) (x .d₀) (x .o) (x .d) (x .outcome))
-      (plays m nums start marks (x .o₀) (x .d₀) (x .o) (x .d) (x .outcome))
-      (plays-length m nums start marks (x .o₀) (x .d₀) (x .o) (x .d) (x .outcome)) (x .orders) (x .dues)
-  answered (Refused r) order due x =
-      refused (machineOf t) valid trace start stamps order₀ due₀ (x .o₀) (x .d₀) (x .order-room) (x .due-room) r (x .outcome) (x .orders) (x .dues)
+  stamped-even : 1 ≤ n → k ≡ n → (length stamps % 4 ≡ 0) × (length stamps / 4 ≡ n)
+  stamped-even h e = handed-count 4 stamps n h (sym told ∙ e)
 
-  pub on-bytes : {n k : ℕ} {s₀ m₀ nums marks order due : List ℕ} {answer : Replayed} → Decoded 2 trace s₀ n nums → Decoded 4 stamps m₀ k marks
-      → length s₀ ≡ 512 → length m₀ ≡ 512 → Called t (take n nums) start (take k marks) order₀ due₀ answer order due
-      → ReplayOnMachine (machineOf t) trace start stamps order₀ due₀ (replayedFields answer) order due
-  on-bytes {s₀ = s₀} {m₀ = m₀} {order = order} {due = due} {answer = answer} p q a b x =
-      let f = ap (λ r. fitted r 2 trace) a in
-      let g = ap (λ r. fitted r 4 stamps) b in
-      answered answer order due (rw (decoded-take 2 trace s₀ p ∙ f, decoded-take 4 stamps m₀ q ∙ g) at x)
+  module _ (few : n ≤ 512) (even : (length stamps % 4 ≡ 0) × (length stamps / 4 ≡ n)) where
+    even-stamped : k ≡ n
+    even-stamped = told ∙ count-handed 4 stamps n few even
+
+    pub stamped-whole : take k marks ≡ wholes 4 stamps
+    stamped-whole = decoded-take 4 stamps m₀ got ∙ ap (λ r. fitted r 4 stamps) long ∙ whole-all 512 4 stamps (omega arith) (omega arith)
+
+-- the same with both lists as they were decoded
+module _ (t : Table) (valid : Valid (machineOf t)) (trace : List ℕ) (start : ℕ) (stamps order₀ due₀ : List ℕ)
+    {n : ℕ} {s₀ s : List ℕ} (got : Decoded 2 trace s₀ n s) (long : length s₀ ≡ 512) (x : TraceIn (t .cells) (t .count) (take n s))
+    {k : ℕ} {m₀ ms : List ℕ} (got' : Decoded 4 stamps m₀ k ms) (long' : length m₀ ≡ 512) where
+  handed : (length trace % 2 ≡ 0) × Handed (machineOf t .transitions) (wholes 2 trace)
+  handed = traced t valid trace got long x
+
+  size : n ≡ length trace / 2
+  size = traced-count t valid trace got long x
+
+  within : (1 ≤ length trace / 2) × (length trace / 2 ≤ 512)
+  within = omega (arith, handed .1 .some, handed .1 .most, length-wholes 2 trace)
+
+  pub read-uneven : (k ≡ n → ⊥) → Out t valid trace start stamps order₀ due₀ (replayedFields (Refused Uneven)) order₀ due₀
+  read-uneven f =
+      uneven t valid trace start stamps order₀ due₀ handed (λ e. f (even-stamped stamps (length trace / 2) got' long' (within .1) e ∙ sym size))
+
+  module _ (e : k ≡ n) where
+    even : (length stamps % 4 ≡ 0) × (length stamps / 4 ≡ length trace / 2)
+    even = stamped-even stamps (length trace / 2) got' long' (within .0) (e ∙ size)
+
+    pub read-cramped : ((n ≤ length order₀ / 2) × (n ≤ length due₀ / 4) → ⊥)
+        → Out t valid trace start stamps order₀ due₀ (replayedFields (Refused NoRoom)) order₀ due₀
+    read-cramped f =
+        cramped t valid trace start stamps order₀ due₀ handed even (λ r. f (omega (arith, size), omega (arith, size)))
+
+    module _ (ro : n ≤ length order₀ / 2) (rd : n ≤ length due₀ / 4) (bo₀ : Bytes order₀) (bd₀ : Bytes due₀) {order due : List ℕ} (bo : Bytes order)
+        (bd : Bytes due) {mark : ℕ} (run : OnPlaces (λ o₀ d₀ o d. WordRun (t .cells) (take n s) start (take k ms) o₀ d₀ mark o d) order₀ due₀ order due) where
+      own-run : OnPlaces (λ o₀ d₀ o d. WordRun (t .cells) (wholes 2 trace) start (wholes 4 stamps) o₀ d₀ mark o d) order₀ due₀ order due
+      own-run =
+          rw (traced-whole t valid trace got long x, stamped-whole stamps (length trace / 2) got' long' (within .1) even) at run
+
+      pub read-stopped : 1 ≤ mark → Out t valid trace start stamps order₀ due₀ (replayedFields (Refused (Outside mark))) order due
+      read-stopped h =
+          word-stopped t valid trace start stamps order₀ due₀ handed even (omega (arith, size)) bo₀ bd₀ bo bd own-run h
+
+      pub read-played : mark ≡ 0 → Out t valid trace start stamps order₀ due₀ (replayedFields Played) order due
+      read-played z =
+          word-played t valid trace start stamps order₀ due₀ handed even (omega (arith, size)) bo₀ bd₀ bo bd own-run z

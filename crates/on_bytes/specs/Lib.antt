@@ -1,3 +1,2 @@
 pub mod Replays
-pub mod ValueCall
 pub mod Rewrites

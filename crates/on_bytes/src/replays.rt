@@ -1,49 +1,13 @@
-// Replay of a word in bytes with a table that was read.
+// Replay of a word in bytes with a table that was read: no more is kept than the decoded trace and stamps.
 use replay::Replayed;
+use table::Refusal;
 use table::Table;
-ghost use mathlib.Core.Path.{_≡_};
-ghost use lib.ListN.{length};
 ghost use Rattle.model.specs.Table.{Valid};
 ghost use Rattle.table.specs.Rows.{machineOf};
 ghost use Rattle.replay.specs.Play.{replayedFields};
 ghost use Rattle.on_bytes.specs.Replays.{ReplayOnMachine};
-ghost use Rattle.on_bytes.specs.ValueCall.{Called};
 
-// The call on values, with the lent room in places, and the used places written back.
-fn call(
-    t: Table,
-    trace: &[u16],
-    start: u32,
-    stamps: &[u32],
-    order: &mut [u8],
-    due: &mut [u8],
-    ranked: &mut [u16],
-    times: &mut [u32],
-) -> Replayed
-    requires { ⌜ (length (now ranked) ≡ 512) × (length (now times) ≡ 512) ⌝ }
-    ensures { λ r. ⌜ Called
-        t (now (trace .entry)) start (now (stamps .entry)) (now (order .entry)) (now (due .entry))
-        r (now (order .exit)) (now (due .exit)) ⌝ }
-{
-    let room = wire::lesser(order.len() / 2, 512);
-    let late = wire::lesser(due.len() / 4, 512);
-    let r = replay::replay(
-        t,
-        trace,
-        start,
-        stamps,
-        &mut ranked[..room],
-        &mut times[..late],
-    );
-    if let Replayed::Refused(x) = r {
-        return Replayed::Refused(x);
-    }
-    places::put_back_twos(order, ranked, trace.len());
-    places::put_back_fours(due, times, trace.len());
-    Replayed::Played
-}
-
-// Decodes the lists and makes the call.
+// Decodes the lists, makes the tests in rising order, and plays within the lent bytes.
 pub(crate) fn replay_on(
     t: Table,
     trace: &[u8],
@@ -59,18 +23,23 @@ pub(crate) fn replay_on(
 {
     let mut steps = [0u16; 512];
     let mut marks = [0u32; 512];
-    let mut ranked = [0u16; 512];
-    let mut times = [0u32; 512];
     let n = places::twos_in(trace, &mut steps);
+    if !trace::is_trace(&t.cells, t.count, &steps[..n]) {
+        return Replayed::Refused(Refusal::NoTrace);
+    }
     let k = places::fours_in(stamps, &mut marks);
-    call(
-        t,
-        &steps[..n],
-        start,
-        &marks[..k],
-        order,
-        due,
-        &mut ranked,
-        &mut times,
-    )
+    if k != n {
+        return Replayed::Refused(Refusal::Uneven);
+    }
+    if order.len() / 2 < n {
+        return Replayed::Refused(Refusal::NoRoom);
+    }
+    if due.len() / 4 < n {
+        return Replayed::Refused(Refusal::NoRoom);
+    }
+    let mark = laid_bytes::play_word(&t.cells, &steps[..n], start, &marks[..k], order, due);
+    if 0 < mark {
+        return Replayed::Refused(Refusal::Outside(mark as usize));
+    }
+    Replayed::Played
 }

@@ -1,5 +1,5 @@
 -- Tests on values and tests on bytes that decide alike.
-use mathlib.Core.Path.{_≡_, refl, _∙_}
+use mathlib.Core.Path.{_≡_, _∙_}
 use mathlib.Core.Logic.{inl, inr}
 use mathlib.Core.List.{List, [], _∷_}
 use Prim.Native.Nat.{ℕ}
@@ -22,10 +22,6 @@ agree-passes (a ∷ k) (b ∷ l) g p = (g .2 (p .0), agree-passes k l (g .4 (p .
 pub agree-fails : (k l : List Test) (n p : ℕ) → Agree k l → Fails k n p → Fails l n p
 agree-fails (a ∷ k) (b ∷ l) n p g (inl f) = inl ((λ h. f .0 (g .3 h)), f .1 ∙ g .0, f .2 ∙ g .1)
 agree-fails (a ∷ k) (b ∷ l) n p g (inr f) = inr (g .2 (f .0), agree-fails k l n p (g .4 (f .0)) (f .1))
-
-pub agree-self : (l : List Test) → Agree l l
-agree-self [] = tt
-agree-self (a ∷ l) = (refl, refl, (λ h. h), (λ h. h), λ h. agree-self l)
 
 -- after a valid table the other tests decide
 module _ (m : Machine) (valid : Valid m) (more : List Test) where

@@ -114,12 +114,6 @@ back-over w n xs more l e h =
     let z : 0 + length (bytes w xs) ≡ length (bytes w xs) = omega arith in
     rw (take-at xs more n e, placed-fits l 0 (bytes w xs) (omega arith), z)
 
--- the same by the number of bytes
-pub back : (w n : ℕ) (xs more l : List ℕ) → length xs ≡ n → n * w ≤ length l → placed l 0 (bytes w (take n (xs ++ more))) ≡ bytes w xs ++ drop (w * n) l
-back w n xs more l e h =
-    let d : length (bytes w xs) ≡ w * n = length-bytes w xs ∙ ap (λ (k : ℕ). k * w) e ∙ omega arith in
-    back-over w n xs more l e h ∙ rw d
-
 -- none written back: as it was
 pub back-none : (w : ℕ) (xs l : List ℕ) → placed l 0 (bytes w (take 0 xs)) ≡ l
 unfolding bytes

@@ -25,6 +25,9 @@ use Rattle.table.proofs.RefusalLaws.{refusal-some, refused-only}
 use Rattle.table.proofs.TestLaws.{Numbered, passes-fails, fails-only, answered-done, answered-refused, answered-only}
 use Rattle.replay.specs.declared.Replayed.{Replayed}
 use Rattle.replay.specs.declared.Replayed.the-variants.{Played, Refused}
+use Rattle.replay.specs.declared.Judged.{Judged}
+use Rattle.replay.specs.declared.Judged.the-variants.{Unfit, Stopped, Inside}
+use Rattle.replay.specs.Judge.{Judges}
 use Rattle.replay.specs.Play.{replayedFields, gapTests, replayTests, Plays, PlayOutcome, ReplayOutcome}
 use Rattle.replay.specs.Tried.{Tried}
 use Rattle.replay.specs.Laid.{Laid, Sizes, WordRun}
@@ -160,6 +163,28 @@ marks-equal tr gaps {k} {k'} a b =
     (λ n. dite (decLt 0 k')
     (λ h'. absurd (passes-fails tests 9 k' (a .inside (omega arith)) (b .outside (omega arith))))
     (λ n'. omega arith))
+
+-- there is one answer of what is told of a word
+module _ (c trace : List ℕ) (start : ℕ) (stamps : List ℕ) (orders dues : ℕ) where
+  abbrev Said : Judged → Type 0
+  Said = Judges c trace start stamps orders dues
+
+  abbrev Mark : ℕ → Type 0
+  Mark = Tried (named c trace) (gapsFrom start stamps)
+
+  one-mark : {s s' : ℕ} → Mark s → Mark s' → s ≡ s'
+  one-mark x y = marks-equal (named c trace) (gapsFrom start stamps) x y
+
+  pub judged-only : (j j' : Judged) → Said j → Said j' → j ≡ j'
+  judged-only Unfit Unfit x y = refl
+  judged-only Unfit (Stopped s) x y = absurd (x (y .0))
+  judged-only Unfit Inside x y = absurd (x (y .0))
+  judged-only (Stopped s) Unfit x y = absurd (y (x .0))
+  judged-only (Stopped s) (Stopped s') x y = ap Stopped (one-mark (x .2) (y .2))
+  judged-only (Stopped s) Inside x y = absurd (omega (arith, x .1, one-mark (x .2) (y .1)))
+  judged-only Inside Unfit x y = absurd (y (x .0))
+  judged-only Inside (Stopped s) x y = absurd (omega (arith, y .1, one-mark (x .1) (y .2)))
+  judged-only Inside Inside x y = refl
 
 -- there is one layout
 laid-only : {time : ℕ → ℕ} {n : ℕ} {o₀ d₀ o d o' d' : List ℕ} → Laid time n o₀ d₀ o d → Laid time n o₀ d₀ o' d' → (o ≡ o') × (d ≡ d')

@@ -25,9 +25,12 @@ use Rattle.table.proofs.TestLaws.{passes-append, fails-back, Numbered, numbered
 use Rattle.trace.specs.Handed.{handedTests}
 use Rattle.trace.proofs.TraceLaws.{named-in, handed-ranged}
 use Rattle.replay.specs.declared.Replayed.the-variants.{Played, Refused}
+use Rattle.replay.specs.declared.Judged.{Judged}
+use Rattle.replay.specs.declared.Judged.the-variants.{Unfit, Stopped, Inside}
 use Rattle.replay.specs.Play.{replayedFields, ownTests, gapTests, replayTests, ReplayOutcome}
 use Rattle.replay.specs.Tried.{Tried}
-use Rattle.replay.specs.Laid.{Laid, counted, LaidOut, Sizes, WordRun}
+use Rattle.replay.specs.Judge.{Judges}
+use Rattle.replay.specs.Laid.{Laid, counted, LaidOut, SizesIn, Sizes, WordRun}
 use Rattle.replay.proofs.WordLaws.{parts-of, fits-activates}
 use Rattle.replay.proofs.GapLaws.{gaps-numbered, gaps-law}
 use Rattle.replay.proofs.LaidLaws.{plain-laid, laid, laid-converts, laid-orders, laid-dues}
@@ -101,20 +104,32 @@ module _ (m : Machine) (trace : List ℕ) (start : ℕ) (stamps o₀ d₀ : List
         (passed-stamped all-first ∙ sym (length-steps (m .transitions) trace))
         (gaps-law (gapsFrom start stamps) (steps (m .transitions) trace) .0 (passes-append first last .0 p .1))
 
--- each way out of a single word
-module _ (c trace : List ℕ) (start : ℕ) (stamps o₀ d₀ : List ℕ) where
-  abbrev Run : ℕ → List ℕ → List ℕ → Type 0
-  Run = WordRun c trace start stamps o₀ d₀
+-- what is told of a single word, with so many places in two buffers
+module _ (c trace : List ℕ) (start : ℕ) (stamps : List ℕ) {orders dues : ℕ} where
+  pub inside-sizes : {j : Judged} → j ≡ Inside → Judges c trace start stamps orders dues j → SizesIn trace stamps orders dues
+  inside-sizes e t = (rw e at t) .0
 
-  pub unfit-run : (Sizes trace stamps o₀ d₀ → ⊥) → Run 0 o₀ d₀
-  unfit-run n = record { tried = λ z. absurd (n z); laid = λ z. absurd (n z); kept = λ h. (refl, refl); unfit = λ z. (refl, refl, refl) }
+  -- and each way out of it
+  module _ (o₀ d₀ : List ℕ) (eo : length o₀ ≡ orders) (ed : length d₀ ≡ dues) where
+    abbrev Run : ℕ → List ℕ → List ℕ → Type 0
+    Run = WordRun c trace start stamps o₀ d₀
 
-  module _ (z : Sizes trace stamps o₀ d₀) {s : ℕ} (tried : Tried (named c trace) (gapsFrom start stamps) s) where
-    pub stopped-run : 1 ≤ s → Run s o₀ d₀
-    stopped-run h = record { tried = λ y. tried; laid = λ y e. absurd (omega arith); kept = λ y. (refl, refl); unfit = λ n. absurd (n z) }
+    pub unfit-run : {j : Judged} → j ≡ Unfit → Judges c trace start stamps orders dues j → Run 0 o₀ d₀
+    unfit-run e t =
+        let n : Sizes trace stamps o₀ d₀ → ⊥ = rw (eo, ed) (rw e at t) in
+        record { tried = λ z. absurd (n z); laid = λ z. absurd (n z); kept = λ h. (refl, refl); unfit = λ z. (refl, refl, refl) }
 
-    pub played-run : {o d : List ℕ} → s ≡ 0 → LaidOut c trace start stamps o₀ d₀ o d → Run 0 o d
-    played-run e l = record { tried = λ y. rw e at tried; laid = λ y x. l; kept = λ y. absurd (omega arith); unfit = λ n. absurd (n z) }
+    pub stopped-run : {j : Judged} {s : ℕ} → j ≡ Stopped s → Judges c trace start stamps orders dues j → Run s o₀ d₀
+    stopped-run e t =
+        let k = rw e at t in
+        let z : Sizes trace stamps o₀ d₀ = rw (eo, ed) (k .0) in
+        record { tried = λ y. k .2; laid = λ y z. absurd (omega (arith, k .1)); kept = λ y. (refl, refl); unfit = λ n. absurd (n z) }
+
+    pub played-run : {j : Judged} {o d : List ℕ} → j ≡ Inside → Judges c trace start stamps orders dues j → LaidOut c trace start stamps o₀ d₀ o d → Run 0 o d
+    played-run e t l =
+        let k = rw e at t in
+        let z : Sizes trace stamps o₀ d₀ = rw (eo, ed) (k .0) in
+        record { tried = λ y. k .1; laid = λ y x. l; kept = λ y. absurd (omega arith); unfit = λ n. absurd (n z) }
 
 -- a single word on the transitions that the code looks up, after the tests: the replay's own outcome
 module _ (t : Table) (trace : List ℕ) (start : ℕ) (stamps o₀ d₀ : List ℕ) (p : Passes (first (machineOf t) trace start stamps o₀ d₀)) where

@@ -1,3 +1,4 @@
 pub mod Play
 pub mod Tried
 pub mod Laid
+pub mod Judge

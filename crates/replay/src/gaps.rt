@@ -38,7 +38,7 @@ fn inside(r: Row, gap: u32) -> bool
 }
 
 // The transition of the step at i.
-pub(crate) fn step_row(cells: &Cells, trace: &[u16], i: usize) -> Row
+fn step_row(cells: &Cells, trace: &[u16], i: usize) -> Row
     requires { ⌜ i < length (now trace) ⌝ }
     ensures { λ r. ⌜ r ≡ rowOf (now (cells .entry)) (getD (now (trace .entry)) i 0) ⌝ }
 {

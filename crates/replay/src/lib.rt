@@ -3,9 +3,13 @@ use table::Cells;
 use table::Checked;
 use table::Refusal;
 use table::Table;
+ghost use mathlib.Core.Path.{_≡_};
+ghost use Prim.Native.Nat.{_+_, _*_, _%_, _^_};
+ghost use Rattle.model.specs.Stamps.{gapOf};
 ghost use Rattle.table.specs.Refusal.{checkedFields};
-ghost use Rattle.table.specs.Rows.{machineOf};
+ghost use Rattle.table.specs.Rows.{rowOf, machineOf};
 ghost use Rattle.table.specs.Tests.{afterTable, Tested};
+ghost use Rattle.replay.specs.Judge.{Judges};
 ghost use Rattle.replay.specs.Laid.{WordRun};
 ghost use Rattle.replay.specs.Play.{replayedFields, ownTests, ReplayOutcome};
 
@@ -15,6 +19,19 @@ mod responses;
 pub enum Replayed {
     Played,
     Refused(Refusal),
+}
+
+// What is told of a word before it is played.
+pub enum Judged {
+    Unfit,
+    Stopped(u16),
+    Inside,
+}
+
+// When a step arrives and when it is due, in 1/256 tick since the start.
+pub struct Moment {
+    pub arrival: u32,
+    pub due: u32,
 }
 
 // The tests that look at no gap, in rising order of their numbers.
@@ -39,6 +56,50 @@ fn tested(t: Table, trace: &[u16], stamps: &[u32], order: &[u16], due: &[u32]) -
     Checked::Sound
 }
 
+// The lengths and the gaps of a word on transitions that nobody tested, with so many places for its order and its due times.
+pub fn judge_word(
+    cells: &Cells,
+    trace: &[u16],
+    start: u32,
+    stamps: &[u32],
+    orders: usize,
+    dues: usize,
+) -> Judged
+    ensures { λ r. ⌜ Judges (now (cells .entry)) (now (trace .entry)) start (now (stamps .entry)) orders dues r ⌝ }
+{
+    let n = trace.len();
+    if 512 < n {
+        return Judged::Unfit;
+    }
+    if stamps.len() != n {
+        return Judged::Unfit;
+    }
+    if orders < n {
+        return Judged::Unfit;
+    }
+    if dues < n {
+        return Judged::Unfit;
+    }
+    let outside = gaps::first_outside(cells, trace, start, stamps);
+    if 0 < outside {
+        return Judged::Stopped(outside as u16);
+    }
+    Judged::Inside
+}
+
+// When a step of that transition arrives and when it is due, by the arrival and the stamp before it, on a counter that wraps.
+pub fn timed(cells: &Cells, step: u16, arrival: u32, before: u32, stamp: u32) -> Moment
+    ensures { λ m. ⌜ (m .arrival ≡ (arrival + gapOf before stamp) % 2 ^ 32)
+        × (m .due ≡ (m .arrival + rowOf (now (cells .entry)) step .d * 256) % 2 ^ 32) ⌝ }
+{
+    let row = table::row_of(cells, step as usize);
+    let arrives = std::num::wrapping_add_u32(arrival, gaps::gap(before, stamp));
+    Moment {
+        arrival: arrives,
+        due: std::num::wrapping_add_u32(arrives, gaps::parts(row.d)),
+    }
+}
+
 // One word on transitions that nobody tested: its steps laid out and 0; or the first step outside its guard, and nothing is written.
 // Where the lengths do not fit nothing is looked at.
 pub fn play_word(
@@ -53,25 +114,14 @@ pub fn play_word(
         (now (cells .entry)) (now (trace .entry)) start (now (stamps .entry)) (now (order .entry)) (now (due .entry))
         mark (now (order .exit)) (now (due .exit)) ⌝ }
 {
-    let n = trace.len();
-    if 512 < n {
-        return 0;
+    match judge_word(cells, trace, start, stamps, order.len(), due.len()) {
+        Judged::Unfit => 0,
+        Judged::Stopped(step) => step,
+        Judged::Inside => {
+            responses::play(cells, trace, start, stamps, order, due);
+            0
+        }
     }
-    if stamps.len() != n {
-        return 0;
-    }
-    if order.len() < n {
-        return 0;
-    }
-    if due.len() < n {
-        return 0;
-    }
-    let outside = gaps::first_outside(cells, trace, start, stamps);
-    if 0 < outside {
-        return outside as u16;
-    }
-    responses::play(cells, trace, start, stamps, order, due);
-    0
 }
 
 // Steps in response order, counted from 1, and beside each its due time in 1/256 tick since the start.

@@ -10,17 +10,17 @@ use Rattle.night_bytes.proofs.play_all.Statement.{statement}
 use Rattle.night_bytes.proofs.play_all.Tie as tie
 
 abbrev Inv-loop : tie.InvT-loop
-Inv-loop cells trace starts stamps order₀ due₀ marks₀ read₀ ranked₀ times₀ words two₀ four₀ w₀ order due marks read ranked times two four w =
+Inv-loop cells trace starts stamps order₀ due₀ marks₀ read₀ words two₀ four₀ w₀ order due marks read two four w =
     (w ≤ words) × (two ≡ w * (length trace * 2)) × (four ≡ w * (length trace * 4))
     × (length order ≡ length order₀) × (length due ≡ length due₀) × (length marks ≡ length marks₀)
-    × (length read ≡ 512) × (length ranked ≡ 512) × (length times ≡ 512)
+    × (length read ≡ 512)
     × WordsWritten cells trace starts stamps w order₀ due₀ marks₀ order due marks
 
 abbrev μ-loop : tie.MeasureT-loop
-μ-loop cells trace starts stamps order₀ due₀ marks₀ read₀ ranked₀ times₀ words two₀ four₀ w₀ order due marks read ranked times two four w = words - w
+μ-loop cells trace starts stamps order₀ due₀ marks₀ read₀ words two₀ four₀ w₀ order due marks read two four w = words - w
 
 loop-holds : tie.Need-loop-holds Inv-loop μ-loop
-loop-holds c = (omega arith, omega arith, omega arith, refl, refl, refl, search needs, search needs, search needs, none-words _ _ _ _ _ _ _)
+loop-holds c = (omega arith, omega arith, omega arith, refl, refl, refl, search needs, none-words _ _ _ _ _ _ _)
 
 -- the bytes of the word at hand
 lent : (p : tie.In-loop Inv-loop μ-loop) → let a = p .before .before .before .before .before .before .before .before .args in let l = p .before .loop in
@@ -80,12 +80,6 @@ part-play-one-end-3 c = let h = lent (c .before .before .before) in search needs
 slice-aggregate-play-one : tie.Need-slice-aggregate-play-one Inv-loop μ-loop
 slice-aggregate-play-one c = search needs
 
-slice-aggregate-play-one-2 : tie.Need-slice-aggregate-play-one-2 Inv-loop μ-loop
-slice-aggregate-play-one-2 c = search needs
-
-slice-aggregate-play-one-3 : tie.Need-slice-aggregate-play-one-3 Inv-loop μ-loop
-slice-aggregate-play-one-3 c = search needs
-
 play-one-requires : tie.Need-play-one-requires Inv-loop μ-loop
 play-one-requires c κs = search needs
 
@@ -100,7 +94,7 @@ put-twos-requires c κs = search needs
 
 add-w : tie.Need-add-w Inv-loop μ-loop
 add-w c =
-    let p = c .before .before .before .before .before .before .before .before .before .before .before .before .before .before .before .before .before .before .before .before in
+    let p = c .before .before .before .before .before .before .before .before .before .before .before .before .before .before .before .before in
     let h : p .before .loop .w + 1 ≤ length (p .before .before .before .before .before .before .before .before .args .starts .now) = omega arith in
     search needs
 
@@ -109,13 +103,13 @@ loop-less c = search needs
 
 loop-again : tie.Need-loop-again Inv-loop μ-loop
 loop-again c =
-    let p = c .before .before .before .before .before .before .before .before .before .before .before .before in
-    let h = lent (p .before .before .before .before .before .before .before .before) in
-    let l = p .before .before .before .before .before .before .before .before .before .loop in
-    let s = p .before .before .before .before .before .before .before .before .before .before .before .before .before .before .before .before in
+    let p = c .before .before .before .before .before .before .before .before .before .before in
+    let h = lent (p .before .before .before .before .before .before) in
+    let l = p .before .before .before .before .before .before .before .loop in
+    let s = p .before .before .before .before .before .before .before .before .before .before .before .before .before .before in
     let a = s .args in
     let r = s .pre in
-    let more : l .w + 1 ≤ length (a .starts .now) / 4 = omega (arith, p .before .before .before .before .before .before .before .before .loop-test .taken) in
+    let more : l .w + 1 ≤ length (a .starts .now) / 4 = omega (arith, p .before .before .before .before .before .before .loop-test .taken) in
     let room : Lent (length (a .trace .now)) (length (a .starts .now) / 4) (a .stamps .now) (l .order) (l .due) (l .marks) = record {
       most = r .most;
       stamps-bytes = r .stamps-bytes;
@@ -130,11 +124,9 @@ loop-again c =
       length-back (l .four) (length (a .trace .now) * 4) (l .due) (p .play-one .last .1 .1 .1 .1 .1 .0) (h .1) (p .play-one .kept .1 .1 .1 .1 .1 .0) ∙ l .inv .4,
       search needs,
       search needs,
-      search needs,
-      search needs,
       one-written (a .cells .now) (a .trace .now) (a .starts .now) (a .stamps .now) (a .order .now) (a .due .now) (a .marks .now)
-          (length (a .starts .now) / 4) (l .w) (l .two) (l .four) (l .order) (l .due) (l .marks) (l .inv .9) (l .inv .1) (l .inv .2) (omega arith) room
-          (p .play-one .result) (p .before .before .before .before .before .before .before .four .ensures) (p .play-one .kept .1 .1 .1 .1 .0) (p .play-one .kept .1 .1 .1 .1 .1 .0) (c .before .before .put-twos .ensures) (p .play-one .ensures),
+          (length (a .starts .now) / 4) (l .w) (l .two) (l .four) (l .order) (l .due) (l .marks) (l .inv .7) (l .inv .1) (l .inv .2) (omega arith) room
+          (p .play-one .result) (p .before .before .before .before .before .four .ensures) (p .play-one .kept .1 .1 .1 .1 .0) (p .play-one .kept .1 .1 .1 .1 .1 .0) (c .before .before .put-twos .ensures) (p .play-one .ensures),
     )
 
 same-length : tie.Need-same-length Inv-loop μ-loop
@@ -151,7 +143,7 @@ returns c =
     let a = c .before .before .before .before .before .before .before .before .args in
     let l = c .before .loop in
     let e : l .w ≡ length (a .starts .now) / 4 = omega arith in
-    rw e at (l .inv .9)
+    rw e at (l .inv .7)
 
 pub play-all-spec : {M : Type 1} → statement M
 play-all-spec =
@@ -176,8 +168,6 @@ play-all-spec =
     part-play-one-start-3
     part-play-one-end-3
     slice-aggregate-play-one
-    slice-aggregate-play-one-2
-    slice-aggregate-play-one-3
     play-one-requires
     mul-put-twos
     slice-aggregate-put-twos

@@ -100,6 +100,8 @@ returns-3 c =
     (told (p .is-trace .result) (p .is-trace .ensures) (not-false _ (c .before .before .before .before .before .before .before .before .before .before .before .before .before .before .before .before .before .before .before .if1 .left)))
     (fits (a .t1) (s .pre) (a .trace .now) (a .starts .now) (a .stamps .now) (a .order .now) (a .due .now) (a .marks .now) (q .twos-in .ensures) (search needs)
     (told (p .is-trace .result) (p .is-trace .ensures) (not-false _ (c .before .before .before .before .before .before .before .before .before .before .before .before .before .before .before .before .before .before .before .if1 .left))) (c .before .before .before .before .before .before .before .before .before .before .before .before .before .enum-told .given .1) (c .before .before .before .before .before .before .before .before .before .before .before .before .before .before .before .measured .ensures))
+    (λ i. q .before .before .before .before .slice-known .given i .fits) (λ i. q .before .before .before .slice-known2 .given i .fits)
+    (λ i. c .before .before .before .before .slice-known4 .given i .fits) (λ i. c .before .before .slice-known5 .given i .fits)
     (c .before .before .before .before .before .before .play-all .ensures)
 
 pub words-on-spec : {M : Type 1} → statement M

@@ -1,74 +1,95 @@
+-- What is not named follows from the arithmetic around it.
 use borrow.Author.Needs.{needs}
+use borrow.Author.Tests.{not-true, not-false}
 use native.Mathlib.Omega.{arith}
-use lib.ListN.{length-take}
-use Rattle.on_bytes.proofs.ByteLaws.{on-bytes}
+use lib.ListN.{take, length-take}
+use Rattle.model.proofs.AnswerLaws.{told, untold}
+use Rattle.trace.specs.Named.{TraceIn}
+use Rattle.on_bytes.proofs.ByteLaws.{no-trace, untraced, read-uneven, read-cramped, read-stopped, read-played}
 use Rattle.on_bytes.proofs.replays.replay_on.Statement.{statement}
 use Rattle.on_bytes.proofs.replays.replay_on.Tie as tie
 
-slice-aggregate-twos-in : tie.Need-slice-aggregate-twos-in
-slice-aggregate-twos-in c = search needs
-
-twos-in-requires : tie.Need-twos-in-requires
-twos-in-requires c κs = search needs
-
-slice-aggregate-fours-in : tie.Need-slice-aggregate-fours-in
-slice-aggregate-fours-in c = search needs
-
-fours-in-requires : tie.Need-fours-in-requires
-fours-in-requires c κs = search needs
-
-array-share-prefix-steps : tie.Need-array-share-prefix-steps
-array-share-prefix-steps c = search needs
-
-slice-aggregate-call : tie.Need-slice-aggregate-call
-slice-aggregate-call c = simp length-take (omega arith)
-
-array-share-prefix-marks : tie.Need-array-share-prefix-marks
-array-share-prefix-marks c = search needs
-
-slice-aggregate-call-2 : tie.Need-slice-aggregate-call-2
-slice-aggregate-call-2 c = simp length-take (omega arith)
-
-slice-aggregate-call-3 : tie.Need-slice-aggregate-call-3
-slice-aggregate-call-3 c = search needs
-
-slice-aggregate-call-4 : tie.Need-slice-aggregate-call-4
-slice-aggregate-call-4 c = search needs
-
-call-requires : tie.Need-call-requires
-call-requires c κs = search needs
-
-same-length : tie.Need-same-length
-same-length c = search needs
-
-same-length-2 : tie.Need-same-length-2
-same-length-2 c = search needs
-
 returns : tie.Need-returns
 returns c =
-    let p = c .before .before .before .before .before .before in
-    let q = p .before .before .before .before .before .before .before .before in
-    let r = q .before .before .before in
-    let s = r .before .before .before .before .before .before in
+    let p = c .before in
+    let q = p .before .before .before .before .before in
+    let s = q .before .before .before .before .before .before in
     let a = s .args in
-    on-bytes (a .t) (s .pre) (a .trace .now) (a .start) (a .stamps .now) (a .order .now) (a .due .now) (r .twos-in .ensures) (q .fours-in .ensures)
-    (search needs) (search needs) (p .call .ensures)
+    no-trace (a .t1) (s .pre) (a .trace .now) (a .start) (a .stamps .now) (a .order .now) (a .due .now)
+    (untraced (a .t1) (s .pre) (a .trace .now) (q .twos-in .ensures) (search needs)
+    (untold (p .is-trace .result) (p .is-trace .ensures) (not-true _ (c .if1 .taken))))
+
+-- the numbers make a trace
+traces : (p : tie.Else1) → let q = p .before .before .before .before .before .before in let a = q .before .before .before .before .before .before .args in
+    TraceIn (a .t1 .cells) (a .t1 .count) (take (q .twos-in .result) (q .twos-in .last .1 .0))
+traces p = told (p .before .is-trace .result) (p .before .is-trace .ensures) (not-false _ (p .if1 .left))
+
+returns-2 : tie.Need-returns-2
+returns-2 c =
+    let r = c .before .before in
+    let p = r .before .before in
+    let q = p .before .before .before .before .before .before in
+    let s = q .before .before .before .before .before .before in
+    let a = s .args in
+    read-uneven (a .t1) (s .pre) (a .trace .now) (a .start) (a .stamps .now) (a .order .now) (a .due .now)
+    (q .twos-in .ensures) (search needs) (traces p) (r .fours-in .ensures) (search needs) (λ e. omega arith)
+
+returns-3 : tie.Need-returns-3
+returns-3 c =
+    let r = c .before .before .before in
+    let p = r .before .before in
+    let q = p .before .before .before .before .before .before in
+    let s = q .before .before .before .before .before .before in
+    let a = s .args in
+    read-cramped (a .t1) (s .pre) (a .trace .now) (a .start) (a .stamps .now) (a .order .now) (a .due .now)
+    (q .twos-in .ensures) (search needs) (traces p) (r .fours-in .ensures) (search needs) (omega arith) (λ e. omega arith)
+
+returns-4 : tie.Need-returns-4
+returns-4 c =
+    let r = c .before .before .before .before in
+    let p = r .before .before in
+    let q = p .before .before .before .before .before .before in
+    let s = q .before .before .before .before .before .before in
+    let a = s .args in
+    read-cramped (a .t1) (s .pre) (a .trace .now) (a .start) (a .stamps .now) (a .order .now) (a .due .now)
+    (q .twos-in .ensures) (search needs) (traces p) (r .fours-in .ensures) (search needs) (omega arith) (λ e. omega arith)
+
+returns-5 : tie.Need-returns-5
+returns-5 c =
+    let e = c .before .before .before .before .before .before .before .before .before .before .before .before in
+    let r = e .before .before .before .before in
+    let p = r .before .before in
+    let q = p .before .before .before .before .before .before in
+    let s2 = q .before .before in
+    let s1 = s2 .before in
+    let s = q .before .before .before .before .before .before in
+    let a = s .args in
+    read-stopped (a .t1) (s .pre) (a .trace .now) (a .start) (a .stamps .now) (a .order .now) (a .due .now)
+    (q .twos-in .ensures) (search needs) (traces p) (r .fours-in .ensures) (search needs)
+    (omega (arith, e .before .before .if2 .left)) (omega (arith, e .before .if3 .left)) (omega (arith, e .if4 .left))
+    (λ i. s1 .slice-known .given i .fits) (λ i. s2 .slice-known2 .given i .fits) (λ i. c .before .before .before .slice-known3 .given i .fits)
+    (λ i. c .before .slice-known4 .given i .fits) (c .before .before .before .before .before .play-word .ensures) (omega arith)
+
+returns-6 : tie.Need-returns-6
+returns-6 c =
+    let e = c .before .before .before .before .before .before .before .before .before .before .before .before in
+    let r = e .before .before .before .before in
+    let p = r .before .before in
+    let q = p .before .before .before .before .before .before in
+    let s2 = q .before .before in
+    let s1 = s2 .before in
+    let s = q .before .before .before .before .before .before in
+    let a = s .args in
+    read-played (a .t1) (s .pre) (a .trace .now) (a .start) (a .stamps .now) (a .order .now) (a .due .now)
+    (q .twos-in .ensures) (search needs) (traces p) (r .fours-in .ensures) (search needs)
+    (omega (arith, e .before .before .if2 .left)) (omega (arith, e .before .if3 .left)) (omega (arith, e .if4 .left))
+    (λ i. s1 .slice-known .given i .fits) (λ i. s2 .slice-known2 .given i .fits) (λ i. c .before .before .before .slice-known3 .given i .fits)
+    (λ i. c .before .slice-known4 .given i .fits) (c .before .before .before .before .before .play-word .ensures) (omega arith)
 
 pub replay-on-spec : {M : Type 1} → statement M
 replay-on-spec =
     tie.close
-    (tie.spec
-    slice-aggregate-twos-in
-    twos-in-requires
-    slice-aggregate-fours-in
-    fours-in-requires
-    array-share-prefix-steps
-    slice-aggregate-call
-    array-share-prefix-marks
-    slice-aggregate-call-2
-    slice-aggregate-call-3
-    slice-aggregate-call-4
-    call-requires
-    same-length
-    same-length-2
-    returns)
+    (tie.spec (λ c. search needs) (λ c κs. search needs) (λ c. search needs) (λ c. simp length-take (omega arith)) (λ c κs. search needs) returns
+    (λ c. search needs) (λ c κs. search needs) returns-2 returns-3 returns-4 (λ c. search needs) (λ c. simp length-take (omega arith))
+    (λ c. search needs) (λ c. simp length-take (omega arith)) (λ c κs. search needs) (λ c. search needs) (λ c. search needs) (λ c. search needs)
+    returns-5 (λ c. search needs) (λ c. search needs) returns-6)
