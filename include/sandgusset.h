@@ -78,10 +78,10 @@ extern "C" {
 #endif
 
 /* The version: a minor one adds calls and numbers, a major one changes what a call means (CHANGELOG.md). */
-#define SANDGUSSET_VERSION "2.0.0"
+#define SANDGUSSET_VERSION "2.0.1"
 #define SANDGUSSET_VERSION_MAJOR 2
 #define SANDGUSSET_VERSION_MINOR 0
-#define SANDGUSSET_VERSION_PATCH 0
+#define SANDGUSSET_VERSION_PATCH 1
 
 /* Values of the status field. */
 #define SANDGUSSET_DONE 0           /* strict, in order, steady, replayed or written */
@@ -119,8 +119,8 @@ extern "C" {
 #define SANDGUSSET_STACK_JUDGE 69632
 #define SANDGUSSET_STACK_ORDER 40960
 #define SANDGUSSET_STACK_JUDGE_TRACE 20480
-#define SANDGUSSET_STACK_REPLAY 24576
-#define SANDGUSSET_STACK_REPLAY_WORDS 21504
+#define SANDGUSSET_STACK_REPLAY 18432
+#define SANDGUSSET_STACK_REPLAY_WORDS 18432
 #define SANDGUSSET_STACK_REWRITE 15360
 
 /* Judges a whole table. Refusals: 1 to 5, 8.
