@@ -99,7 +99,7 @@ module _ (w : ℕ) where
         (sym (le-drop w now (p * w) 0 (p * w) (omega arith)) ∙ rw from (le-digits w x (drop (p * w + w) b) f)
         ∙ sym (getD-set-same (wholes w b) p x 0 (omega arith)))))
 
-    pub stored : Stored w b p x now
+    stored : Stored w b p x now
     stored = record {
       is = ext-getD 0 (wholes w now) (set (wholes w b) p x)
           (length-wholes w now ∙ ap (λ (n : ℕ). n / w) long ∙ sym (length-set (wholes w b) p x ∙ length-wholes w b))

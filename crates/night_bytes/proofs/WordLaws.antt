@@ -15,7 +15,7 @@ use Rattle.table.specs.declared.Table.{Table}
 use Rattle.table.specs.Rows.{machineOf}
 use Rattle.replay.specs.Play.{replayedFields}
 use Rattle.on_bytes.specs.Replays.{ReplayOnMachine}
-use Rattle.on_bytes.proofs.ByteLaws.{word-stopped, word-played}
+use Rattle.on_bytes.proofs.ByteLaws.{word-answer}
 use Rattle.night.specs.Night.{answerOf, part}
 use Rattle.night_bytes.specs.Runs.{WordWritten}
 
@@ -35,6 +35,6 @@ module _ (t : Table) (valid : Valid (machineOf t)) (trace : List ℕ) (traced : 
       → WordWritten (t .cells) (wholes 2 trace) start stamps order₀ due₀ mark order due
       → ReplayOnMachine (machineOf t) trace start stamps order₀ due₀ (replayedFields (answerOf mark)) order due
   word-bytes zero bo₀ bd₀ bo bd x =
-      word-played t valid trace start stamps order₀ due₀ traced (omega arith) (omega arith) bo₀ bd₀ bo bd x refl
+      word-answer t valid trace start stamps order₀ due₀ traced (omega arith) (omega arith) bo₀ bd₀ bo bd x .played refl
   word-bytes (suc i) bo₀ bd₀ bo bd x =
-      word-stopped t valid trace start stamps order₀ due₀ traced (omega arith) (omega arith) bo₀ bd₀ bo bd x (omega arith)
+      word-answer t valid trace start stamps order₀ due₀ traced (omega arith) (omega arith) bo₀ bd₀ bo bd x .stopped (omega arith)

@@ -28,6 +28,11 @@ use Rattle.places.specs.Places.{fitted, handedOn, Decoded}
 use Rattle.places.proofs.PlaceLaws.{length-wholes, whole-all, decoded-take, handed-whole, handed-count, count-handed, trace-whole, whole-trace, trace-count}
 use Rattle.on_bytes.specs.Replays.{sizesTests, ReplayOnMachine}
 
+-- what a word is answered by its mark
+pub record WordAnswer (t : Table) (trace : List ℕ) (start : ℕ) (stamps order₀ due₀ : List ℕ) (mark : ℕ) (order due : List ℕ) : Type 0 where
+  pub stopped : 1 ≤ mark → ReplayOnMachine (machineOf t) trace start stamps order₀ due₀ (replayedFields (Refused (Outside mark))) order due
+  pub played : mark ≡ 0 → ReplayOnMachine (machineOf t) trace start stamps order₀ due₀ (replayedFields Played) order due
+
 -- with a table that was read: a trace in bytes, and a word's stamps and places
 module _ (t : Table) (valid : Valid (machineOf t)) (trace : List ℕ) (start : ℕ) (stamps order₀ due₀ : List ℕ) where
   abbrev m : Machine
@@ -99,7 +104,7 @@ module _ (t : Table) (valid : Valid (machineOf t)) (trace : List ℕ) (start : �
       sizes-passed : Passes sizes
       sizes-passed = (traced, (even, (roomy, tt)))
 
-      pub word-stopped : 1 ≤ mark → Out (replayedFields (Refused (Outside mark))) order due
+      word-stopped : 1 ≤ mark → Out (replayedFields (Refused (Outside mark))) order due
       word-stopped h =
           let x : Valued (replayedFields (Refused (Outside mark))) = replay.refuses-gap t nums start marks o₀ d₀ passed (run .places) h in
           let u = unplayed (Outside mark) x in
@@ -107,7 +112,7 @@ module _ (t : Table) (valid : Valid (machineOf t)) (trace : List ℕ) (start : �
           refuses refl (fails-back sizes gaps 9 mark sizes-passed .1 outside)
           (same-bytes 2 bo bo₀ (u .1 .0) (run .order-rest), same-bytes 4 bd bd₀ (u .1 .1) (run .due-rest))
 
-      pub word-played : mark ≡ 0 → Out (replayedFields Played) order due
+      word-played : mark ≡ 0 → Out (replayedFields Played) order due
       word-played z =
           let x : Valued (replayedFields Played) = replay.plays t nums start marks o₀ d₀ passed (run .places) z in
           let k = plays m nums start marks o₀ d₀ (wholes 2 order) (wholes 4 due) x in
@@ -126,6 +131,9 @@ module _ (t : Table) (valid : Valid (machineOf t)) (trace : List ℕ) (start : �
                   (length-map (k .responses) (λ r. r .time) ∙ all) (roomy .1) (rw (length-wholes 2 trace) at (k .dues)) (run .due-rest);
             },
           )
+
+      pub word-answer : WordAnswer t trace start stamps order₀ due₀ mark order due
+      word-answer = record { stopped = word-stopped; played = word-played }
 
 -- a trace decoded into 512 places: the trace in bytes, told by the test of the numbers
 module _ (t : Table) (valid : Valid (machineOf t)) (trace : List ℕ) {n : ℕ} {s₀ s : List ℕ} (got : Decoded 2 trace s₀ n s) (long : length s₀ ≡ 512) where
@@ -195,10 +203,5 @@ module _ (t : Table) (valid : Valid (machineOf t)) (trace : List ℕ) (start : �
       own-run =
           rw (traced-whole t valid trace got long x, stamped-whole stamps (length trace / 2) got' long' (within .1) even) at run
 
-      pub read-stopped : 1 ≤ mark → Out t valid trace start stamps order₀ due₀ (replayedFields (Refused (Outside mark))) order due
-      read-stopped h =
-          word-stopped t valid trace start stamps order₀ due₀ handed even (omega (arith, size)) bo₀ bd₀ bo bd own-run h
-
-      pub read-played : mark ≡ 0 → Out t valid trace start stamps order₀ due₀ (replayedFields Played) order due
-      read-played z =
-          word-played t valid trace start stamps order₀ due₀ handed even (omega (arith, size)) bo₀ bd₀ bo bd own-run z
+      pub read-word : WordAnswer t trace start stamps order₀ due₀ mark order due
+      read-word = word-answer t valid trace start stamps order₀ due₀ handed even (omega (arith, size)) bo₀ bd₀ bo bd own-run

@@ -20,7 +20,8 @@ returns-2 c = stopped-run _ _ _ _ _ _ refl refl (c .before .step .given .1) (c .
 returns-3 : tie.Need-returns-3
 returns-3 c =
     let p = c .before .before .before .before in
-    played-run _ _ _ _ _ _ refl refl (p .before .before .before .enum-told2 .given .1) (p .before .before .before .before .before .judge-word .ensures) (p .play .ensures)
+    let e = p .before .before .before in
+    played-run _ _ _ _ _ _ refl refl (e .enum-told2 .given .1) (e .before .before .judge-word .ensures) (p .play .ensures)
 
 pub play-word-spec : {M : Type 1} → statement M
 play-word-spec =

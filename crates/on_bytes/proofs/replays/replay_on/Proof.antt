@@ -2,10 +2,16 @@
 use borrow.Author.Needs.{needs}
 use borrow.Author.Tests.{not-true, not-false}
 use native.Mathlib.Omega.{arith}
-use lib.ListN.{take, length-take}
+use Prim.Native.Nat.{_/_, _≤_}
+use lib.ListN.{length, take, length-take}
 use Rattle.model.proofs.AnswerLaws.{told, untold}
+use Rattle.table.specs.declared.Refusal.the-variants.{NoRoom}
+use Rattle.table.specs.Rows.{machineOf}
 use Rattle.trace.specs.Named.{TraceIn}
-use Rattle.on_bytes.proofs.ByteLaws.{no-trace, untraced, read-uneven, read-cramped, read-stopped, read-played}
+use Rattle.replay.specs.declared.Replayed.the-variants.{Refused}
+use Rattle.replay.specs.Play.{replayedFields}
+use Rattle.on_bytes.specs.Replays.{ReplayOnMachine}
+use Rattle.on_bytes.proofs.ByteLaws.{no-trace, untraced, WordAnswer, read-uneven, read-cramped, read-word}
 use Rattle.on_bytes.proofs.replays.replay_on.Statement.{statement}
 use Rattle.on_bytes.proofs.replays.replay_on.Tie as tie
 
@@ -34,57 +40,50 @@ returns-2 c =
     read-uneven (a .t1) (s .pre) (a .trace .now) (a .start) (a .stamps .now) (a .order .now) (a .due .now)
     (q .twos-in .ensures) (search needs) (traces p) (r .fours-in .ensures) (search needs) (λ e. omega arith)
 
-returns-3 : tie.Need-returns-3
-returns-3 c =
-    let r = c .before .before .before in
+-- as many stamps as steps: each way out, of the lent room and of the played word
+cramps : (c : tie.Else2) → let q = c .before .before .before .before .before .before .before .before .before .before in
+    let a = q .before .before .before .before .before .before .args in
+    ((q .twos-in .result ≤ length (a .order .now) / 2) × (q .twos-in .result ≤ length (a .due .now) / 4) → ⊥)
+    → ReplayOnMachine (machineOf (a .t1)) (a .trace .now) (a .start) (a .stamps .now) (a .order .now) (a .due .now)
+    (replayedFields (Refused NoRoom)) (a .order .now) (a .due .now)
+cramps c =
+    let r = c .before .before in
     let p = r .before .before in
     let q = p .before .before .before .before .before .before in
     let s = q .before .before .before .before .before .before in
     let a = s .args in
     read-cramped (a .t1) (s .pre) (a .trace .now) (a .start) (a .stamps .now) (a .order .now) (a .due .now)
-    (q .twos-in .ensures) (search needs) (traces p) (r .fours-in .ensures) (search needs) (omega arith) (λ e. omega arith)
+    (q .twos-in .ensures) (search needs) (traces p) (r .fours-in .ensures) (search needs) (omega arith)
+
+returns-3 : tie.Need-returns-3
+returns-3 c = cramps (c .before) (λ e. omega arith)
 
 returns-4 : tie.Need-returns-4
-returns-4 c =
-    let r = c .before .before .before .before in
+returns-4 c = cramps (c .before .before) (λ e. omega arith)
+
+plays : (c : tie.After-slice-known4) → let w = c .before .before .before .before .play-word in
+    let r = c .before .before .before .before .before .before .before .before .before .before .before .before .before .before .before in let a = r .before .before .before .before .before .before .before .before .before .before .before .before .before .before .args in
+    WordAnswer (a .t1) (a .trace .now) (a .start) (a .stamps .now) (a .order .now) (a .due .now) (w .result)
+    (w .last .1 .1 .1 .1 .0) (w .last .1 .1 .1 .1 .1 .0)
+plays c =
+    let e = c .before .before .before .before .before .before .before .before .before .before .before in
+    let r = e .before .before .before .before in
     let p = r .before .before in
     let q = p .before .before .before .before .before .before in
-    let s = q .before .before .before .before .before .before in
+    let k = q .before .before in
+    let s = k .before .before .before .before in
     let a = s .args in
-    read-cramped (a .t1) (s .pre) (a .trace .now) (a .start) (a .stamps .now) (a .order .now) (a .due .now)
-    (q .twos-in .ensures) (search needs) (traces p) (r .fours-in .ensures) (search needs) (omega arith) (λ e. omega arith)
+    read-word (a .t1) (s .pre) (a .trace .now) (a .start) (a .stamps .now) (a .order .now) (a .due .now)
+    (q .twos-in .ensures) (search needs) (traces p) (r .fours-in .ensures) (search needs)
+    (omega (arith, e .before .before .if2 .left)) (omega (arith, e .before .if3 .left)) (omega (arith, e .if4 .left))
+    (λ i. k .before .slice-known .given i .fits) (λ i. k .slice-known2 .given i .fits) (λ i. c .before .before .slice-known3 .given i .fits)
+    (λ i. c .slice-known4 .given i .fits) (c .before .before .before .before .play-word .ensures)
 
 returns-5 : tie.Need-returns-5
-returns-5 c =
-    let e = c .before .before .before .before .before .before .before .before .before .before .before .before in
-    let r = e .before .before .before .before in
-    let p = r .before .before in
-    let q = p .before .before .before .before .before .before in
-    let s2 = q .before .before in
-    let s1 = s2 .before in
-    let s = q .before .before .before .before .before .before in
-    let a = s .args in
-    read-stopped (a .t1) (s .pre) (a .trace .now) (a .start) (a .stamps .now) (a .order .now) (a .due .now)
-    (q .twos-in .ensures) (search needs) (traces p) (r .fours-in .ensures) (search needs)
-    (omega (arith, e .before .before .if2 .left)) (omega (arith, e .before .if3 .left)) (omega (arith, e .if4 .left))
-    (λ i. s1 .slice-known .given i .fits) (λ i. s2 .slice-known2 .given i .fits) (λ i. c .before .before .before .slice-known3 .given i .fits)
-    (λ i. c .before .slice-known4 .given i .fits) (c .before .before .before .before .before .play-word .ensures) (omega arith)
+returns-5 c = plays (c .before) .stopped (omega arith)
 
 returns-6 : tie.Need-returns-6
-returns-6 c =
-    let e = c .before .before .before .before .before .before .before .before .before .before .before .before in
-    let r = e .before .before .before .before in
-    let p = r .before .before in
-    let q = p .before .before .before .before .before .before in
-    let s2 = q .before .before in
-    let s1 = s2 .before in
-    let s = q .before .before .before .before .before .before in
-    let a = s .args in
-    read-played (a .t1) (s .pre) (a .trace .now) (a .start) (a .stamps .now) (a .order .now) (a .due .now)
-    (q .twos-in .ensures) (search needs) (traces p) (r .fours-in .ensures) (search needs)
-    (omega (arith, e .before .before .if2 .left)) (omega (arith, e .before .if3 .left)) (omega (arith, e .if4 .left))
-    (λ i. s1 .slice-known .given i .fits) (λ i. s2 .slice-known2 .given i .fits) (λ i. c .before .before .before .slice-known3 .given i .fits)
-    (λ i. c .before .slice-known4 .given i .fits) (c .before .before .before .before .before .play-word .ensures) (omega arith)
+returns-6 c = plays (c .before) .played (omega arith)
 
 pub replay-on-spec : {M : Type 1} → statement M
 replay-on-spec =
