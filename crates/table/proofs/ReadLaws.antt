@@ -21,7 +21,7 @@ use Rattle.table.specs.declared.Frame.the-variants.{Bad, Took, Last}
 use Rattle.table.specs.declared.Opening.the-variants.{Opened, Shut}
 use Rattle.table.specs.declared.Counted.{Counted}
 use Rattle.table.specs.declared.Counted.the-variants.{Count, Stop}
-use Rattle.table.specs.declared.Reading.{Reading}
+use Rattle.table.specs.declared.Table.{Table}
 use Rattle.table.specs.Refusal.{refusalNumber, refusalPlace, checkedFields}
 use Rattle.table.specs.Rows.{rows, said, putRow, cellsOf, tableIn, tableOf}
 use Rattle.table.specs.Check.{inRange, has}
@@ -151,20 +151,28 @@ module _ (file : List ℕ) (states : ℕ) (cells : List ℕ) (n at : ℕ) (k : K
       (λ h. let room : 256 - n ≡ 0 = omega arith in
       rw (room, rows-full states at rest ts r e, admit-full-says states at n ts (said r) x (omega arith) q))
 
-  -- a transition that was taken is stored, and the scan goes on behind it
-  pub kept-more : (r : Row) → frameIn at rest ≡ Took r → (next : List ℕ) → Sound ≡ admitOf states at n ts (said r) → next ≡ putRow cells n (said r)
-      → Kept file states next (n + 1) (at + 18)
-  kept-more r e next a q =
-      let h : n < 256 = admit-few states at n ts (said r) (k .few) (sym a) in
-      let s = admit-says states at n ts (said r) h (sym a) in
-      let w : next ≡ cellsOf (ts ++ (said r ∷ [])) = q ∙ ap (λ (c : List ℕ). putRow c n (said r)) (k .shape) ∙ put-cells ts n (said r) (length-rows cells n) h in
-      let len : length (ts ++ (said r ∷ [])) ≡ n + 1 = length-append ts (said r ∷ []) ∙ omega (arith, length-rows cells n) in
-      let rs : rows next (n + 1) ≡ ts ++ (said r ∷ []) = rw (w, ← len) (rows-cells (ts ++ (said r ∷ []))) in
-      let long = took-says at rest r e .long in
-      let room : 256 - n ≡ suc (256 - (n + 1)) = omega arith in
-      let d : drop 18 rest ≡ drop (at + 18) file = drop-drop 18 at file in
-      let step = rw (room, rows-took states at rest ts (256 - (n + 1)) r e, s .0, s .1, d) at (k .same) in
-      record { few = omega arith; inside = omega (arith, length-drop at file); shape = w ∙ ap cellsOf (sym rs); same = rw rs step }
+  -- a transition that was taken is stored behind the others, and the scan goes on behind it
+  module _ (r : Row) (next : List ℕ) (a : Sound ≡ admitOf states at n ts (said r)) (q : next ≡ putRow cells n (said r)) where
+    abbrev few : n < 256
+    few = admit-few states at n ts (said r) (k .few) (sym a)
+
+    shaped : next ≡ cellsOf (ts ++ (said r ∷ []))
+    shaped = q ∙ ap (λ (c : List ℕ). putRow c n (said r)) (k .shape) ∙ put-cells ts n (said r) (length-rows cells n) few
+
+    pub kept-rows : rows next (n + 1) ≡ ts ++ (said r ∷ [])
+    kept-rows =
+        let len : length (ts ++ (said r ∷ [])) ≡ n + 1 = length-append ts (said r ∷ []) ∙ omega (arith, length-rows cells n) in
+        rw (shaped, ← len) (rows-cells (ts ++ (said r ∷ [])))
+
+    pub kept-more : frameIn at rest ≡ Took r → Kept file states next (n + 1) (at + 18)
+    kept-more e =
+        let h : n < 256 = few in
+        let s = admit-says states at n ts (said r) h (sym a) in
+        let long = took-says at rest r e .long in
+        let room : 256 - n ≡ suc (256 - (n + 1)) = omega arith in
+        let d : drop 18 rest ≡ drop (at + 18) file = drop-drop 18 at file in
+        let step = rw (room, rows-took states at rest ts (256 - (n + 1)) r e, s .0, s .1, d) at (k .same) in
+        record { few = omega arith; inside = omega (arith, length-drop at file); shape = shaped ∙ ap cellsOf (sym kept-rows); same = rw kept-rows step }
 
 -- what the head and the records give together
 pub read-shut : (l : List ℕ) (r : Refusal) → headIn l ≡ Shut r → readFile l ≡ stopped (refusalNumber r) (refusalPlace r)
@@ -181,9 +189,9 @@ module _ (l : List ℕ) (s i : ℕ) (e : headIn l ≡ Opened s i) where
   read-found ts f = rw (e, f)
 
 -- the reader's ways out: the refusal, or the table value that is made of the count and the cells
-pub read-refused : (l : List ℕ) (r : Refusal) (a : Reading) → readFile l ≡ stopped (refusalNumber r) (refusalPlace r)
-    → (a .answer ≡ Refused r) × (a .table ≡ tableOf bare) → ReadOutcome (readFile l) (checkedFields (a .answer)) (a .table)
-read-refused l r a e x = rw e (ap checkedFields (x .0), x .1)
+pub read-refused : (l : List ℕ) (r : Refusal) (a : Checked) (t : Table) → readFile l ≡ stopped (refusalNumber r) (refusalPlace r)
+    → (a ≡ Refused r) × (t ≡ tableOf bare) → ReadOutcome (readFile l) (checkedFields a) t
+read-refused l r a t e x = rw e (ap checkedFields (x .0), x .1)
 
 pub read-table : (l cells : List ℕ) (s i n : ℕ) → headIn l ≡ Opened s i → RowsOutcome (rowsFrom 256 s 8 (drop 8 l) []) (Count n) cells
     → ReadOutcome (readFile l) (fields 0 0 0 0) (tableIn s i n cells)

@@ -1,8 +1,9 @@
 // Whether a table value is valid: ranges, then equal pairs.
 use crate::Cells;
 use crate::Row;
-use crate::rows::has_row;
 use crate::rows::row_at;
+use crate::seen::key;
+use crate::seen::seen_before;
 ghost use mathlib.Core.Path.{_≡_};
 ghost use Prim.Native.Nat.{_≤_};
 ghost use Rattle.model.specs.Answers.{Tells};
@@ -82,9 +83,11 @@ pub(crate) fn all_unlike(cells: &Cells, n: usize) -> bool
     requires { ⌜ n ≤ 256 ⌝ }
     ensures { λ b. ⌜ Tells b (Unlike (rows (now (cells .entry)) n)) ⌝ }
 {
+    let mut seen = [0u8; 2048];
     let mut i: usize = 0;
     while i < n {
-        if has_row(cells, i, row_at(cells, i)) {
+        let r = row_at(cells, i);
+        if seen_before(cells, i, r, key(r), &mut seen) {
             return false;
         }
         i += 1;

@@ -4,33 +4,34 @@ use crate::Checked;
 use crate::Counted;
 use crate::Frame;
 use crate::Opening;
-use crate::Reading;
+use crate::PartsRead;
 use crate::Refusal;
 use crate::Row;
-use crate::Table;
 use crate::ranges::head_fine;
 use crate::ranges::in_range;
-use crate::rows::has_row;
 use crate::rows::put_row;
+use crate::seen::Seen;
+use crate::seen::key;
+use crate::seen::seen_before;
 ghost use mathlib.Core.Path.{_≡_};
 ghost use mathlib.Core.List.{[]};
 ghost use Prim.Native.Nat.{_+_, _≤_};
 ghost use lib.ListN.{length, drop};
-ghost use Rattle.table.specs.Rows.{rows, said, cellsOf, tableOf};
-ghost use Rattle.table.specs.File.{rowIn, frameIn, openedIn, headIn, finishOf, bare, rowsFrom, RowsOutcome, admitOf, admitCells};
+ghost use Rattle.table.specs.Refusal.{checkedFields};
+ghost use Rattle.table.specs.Rows.{rows, said, cellsOf, tableIn, tableOf};
+ghost use Rattle.table.specs.File.{rowIn, frameIn, openedIn, headIn, finishOf, bare, rowsFrom, RowsOutcome, ReadOutcome, readFile, admitOf, admitCells};
+ghost use Rattle.table.specs.Seen.{Marked, AdmitSeen};
 
 // What a refused file gives: the table of one state and no transitions.
-pub(crate) fn refused(r: Refusal) -> Reading
-    ensures { λ a. ⌜ (a .answer ≡ Checked.Refused r) × (a .table ≡ tableOf bare) ⌝ }
+fn refused(r: Refusal, cells: &mut Cells) -> PartsRead
+    ensures { λ a. ⌜ (a .answer ≡ Checked.Refused r) × (tableIn (a .states) (a .initial) (a .count) (now (cells .exit)) ≡ tableOf bare) ⌝ }
 {
-    Reading {
+    *cells = [0u16; 1792];
+    PartsRead {
         answer: Checked::Refused(r),
-        table: Table {
-            states: 1,
-            initial: 0,
-            count: 0,
-            cells: [0u16; 1792],
-        },
+        states: 1,
+        initial: 0,
+        count: 0,
     }
 }
 
@@ -47,7 +48,7 @@ fn opened(body: &[u8]) -> Opening
 }
 
 // The first record must be a head.
-pub(crate) fn head(file: &[u8]) -> Opening
+fn head(file: &[u8]) -> Opening
     ensures { λ r. ⌜ r ≡ headIn (now (file .entry)) ⌝ }
 {
     if file.len() < 4 {
@@ -108,10 +109,10 @@ fn frame(file: &[u8], at: usize) -> Frame
     Frame::Bad(Refusal::Cut(at))
 }
 
-// A transition after n others: 3, 4, 5, else it is stored.
-fn admit(cells: &mut Cells, states: u16, n: usize, at: usize, r: Row) -> Checked
-    requires { ⌜ n ≤ 256 ⌝ }
-    ensures { λ a. ⌜ (a ≡ admitOf states at n (rows (now (cells .entry)) n) (said r)) × (now (cells .exit) ≡ admitCells a (now (cells .entry)) n (said r)) ⌝ }
+// A transition after n others: 3, 4, 5, else it is stored, and marked as met.
+fn admit(cells: &mut Cells, seen: &mut Seen, states: u16, n: usize, at: usize, r: Row) -> Checked
+    requires { ⌜ (n ≤ 256) × Marked (now seen) (rows (now cells) n) ⌝ }
+    ensures { λ a. ⌜ (a ≡ admitOf states at n (rows (now (cells .entry)) n) (said r)) × (now (cells .exit) ≡ admitCells a (now (cells .entry)) n (said r)) × AdmitSeen a (now (seen .exit)) (rows (now (cells .entry)) n) (said r) ⌝ }
 {
     if 256 <= n {
         return Checked::Refused(Refusal::Full(at));
@@ -119,7 +120,7 @@ fn admit(cells: &mut Cells, states: u16, n: usize, at: usize, r: Row) -> Checked
     if !in_range(states, r) {
         return Checked::Refused(Refusal::OutOfRange(at));
     }
-    if has_row(cells, n, r) {
+    if seen_before(cells, n, r, key(r), seen) {
         return Checked::Refused(Refusal::Repeated(at));
     }
     put_row(cells, n, r);
@@ -138,10 +139,11 @@ fn finish(file: &[u8], at: usize, n: usize) -> Counted
 }
 
 // The transitions after the head, stored one by one.
-pub(crate) fn read_rows(file: &[u8], states: u16, cells: &mut Cells) -> Counted
+fn read_rows(file: &[u8], states: u16, cells: &mut Cells) -> Counted
     requires { ⌜ (8 ≤ length (now file)) × (now cells ≡ cellsOf []) ⌝ }
     ensures { λ r. ⌜ RowsOutcome (rowsFrom 256 states 8 (drop 8 (now (file .entry))) []) r (now (cells .exit)) ⌝ }
 {
+    let mut seen = [0u8; 2048];
     let mut at: usize = 8;
     let mut n: usize = 0;
     loop {
@@ -154,12 +156,35 @@ pub(crate) fn read_rows(file: &[u8], states: u16, cells: &mut Cells) -> Counted
                 return finish(file, at, n);
             }
             Frame::Took(t) => {
-                let a = admit(cells, states, n, at, t);
+                let a = admit(cells, &mut seen, states, n, at, t);
                 if let Checked::Refused(r) = a {
                     return Counted::Stop(r);
                 }
                 n += 1;
                 at += 18;
+            }
+        }
+    }
+}
+
+// The table of a file, into cells that are clear.
+pub(crate) fn read_clear(file: &[u8], cells: &mut Cells) -> PartsRead
+    requires { ⌜ now cells ≡ cellsOf [] ⌝ }
+    ensures { λ r. ⌜ ReadOutcome (readFile (now (file .entry))) (checkedFields (r .answer)) (tableIn (r .states) (r .initial) (r .count) (now (cells .exit))) ⌝ }
+{
+    let h = head(file);
+    match h {
+        Opening::Shut(r) => refused(r, cells),
+        Opening::Opened(states, initial) => {
+            let c = read_rows(file, states, cells);
+            match c {
+                Counted::Stop(r) => refused(r, cells),
+                Counted::Count(count) => PartsRead {
+                    answer: Checked::Sound,
+                    states,
+                    initial,
+                    count,
+                },
             }
         }
     }

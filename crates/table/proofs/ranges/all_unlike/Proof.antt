@@ -1,37 +1,43 @@
 use borrow.Author.Needs.{needs}
 use native.Mathlib.Omega.{arith}
-use mathlib.Core.Path.{_≡_, sym, _∙_}
+use mathlib.Core.Path.{_≡_, refl, sym, _∙_}
 use Prim.Native.Nat.{_≤_, _-_}
 use Rattle.table.specs.Rows.{rowAt, rows, said}
 use Rattle.table.specs.Check.{has}
+use Rattle.table.specs.Seen.{Marked}
 use Rattle.model.specs.Table.{Unlike}
 use Rattle.table.proofs.RowLaws.{unlike-none, unlike-next, unlike-stop}
+use Rattle.table.proofs.SeenLaws.{marked-start, marked-row}
 use Rattle.table.proofs.ranges.all_unlike.Statement.{statement}
 use Rattle.table.proofs.ranges.all_unlike.Tie as tie
 
 abbrev Inv-loop : tie.InvT-loop
-Inv-loop cells n i₀ i = (i ≤ n) × Unlike (rows cells i)
+Inv-loop cells n seen₀ i₀ seen i = (i ≤ n) × Unlike (rows cells i) × Marked seen (rows cells i)
 
 abbrev μ-loop : tie.MeasureT-loop
-μ-loop cells n i₀ i = n - i
+μ-loop cells n seen₀ i₀ seen i = n - i
 
 loop-holds : tie.Need-loop-holds Inv-loop μ-loop
-loop-holds c = (omega arith, unlike-none _)
+loop-holds c = (omega arith, unlike-none _, marked-start _ _ refl)
 
 row-at-requires : tie.Need-row-at-requires Inv-loop μ-loop
 row-at-requires c κs = search needs
 
-has-row-requires : tie.Need-has-row-requires Inv-loop μ-loop
-has-row-requires c κs = search needs
+key-requires : tie.Need-key-requires Inv-loop μ-loop
+key-requires c κs = search needs
+
+seen-before-requires : tie.Need-seen-before-requires Inv-loop μ-loop
+seen-before-requires c κs = (omega arith, c .before .key .ensures, c .before .before .before .before .loop .inv .2)
 
 -- the test of transition i
-after-has-row : (p : tie.After-has-row Inv-loop μ-loop)
-    → let a = p .before .before .before .before .args in
-    p .has-row .result ≡ has (said (rowAt (a .cells .now) (p .before .before .before .loop .i))) (rows (a .cells .now) (p .before .before .before .loop .i))
-after-has-row p = rw (p .before .row-at .ensures) at (p .has-row .ensures)
+after-seen-before : (p : tie.After-seen-before Inv-loop μ-loop)
+    → let a = p .before .before .before .before .before .before .args in
+    let i = p .before .before .before .before .before .loop .i in
+    p .seen-before .result ≡ has (said (rowAt (a .cells .now) i)) (rows (a .cells .now) i)
+after-seen-before p = rw (p .before .before .before .row-at .ensures) at (p .seen-before .ensures .0)
 
 returns : tie.Need-returns Inv-loop μ-loop
-returns c = unlike-stop _ _ _ (omega arith) (sym (after-has-row (c .before)) ∙ c .if1 .taken)
+returns c = unlike-stop _ _ _ (omega arith) (sym (after-seen-before (c .before)) ∙ c .if1 .taken)
 
 add-i : tie.Need-add-i Inv-loop μ-loop
 add-i c = search needs
@@ -40,7 +46,12 @@ loop-less : tie.Need-loop-less Inv-loop μ-loop
 loop-less c = search needs
 
 loop-again : tie.Need-loop-again Inv-loop μ-loop
-loop-again c = (omega arith, unlike-next _ _ (c .before .before .before .before .loop .inv .1) (sym (after-has-row (c .before)) ∙ c .if1 .left))
+loop-again c =
+    let l = c .before .before .before .before .before .before .loop in (
+      omega arith,
+      unlike-next _ _ (l .inv .1) (sym (after-seen-before (c .before)) ∙ c .if1 .left),
+      marked-row _ (l .i) (c .before .before .before .before .row-at .ensures) (c .before .seen-before .ensures .1),
+    )
 
 returns-2 : tie.Need-returns-2 Inv-loop μ-loop
 returns-2 c =
@@ -55,7 +66,8 @@ all-unlike-spec =
     μ-loop
     loop-holds
     row-at-requires
-    has-row-requires
+    key-requires
+    seen-before-requires
     returns
     add-i
     loop-less
