@@ -26,9 +26,11 @@ use Rattle.table.specs.Refusal.{refusalNumber, refusalPlace, checkedFiel
 use Rattle.table.specs.Rows.{rows, said, putRow, cellsOf, tableIn, tableOf}
 use Rattle.table.specs.Check.{inRange, has}
 use Rattle.table.specs.File.{headIn, readFile, bare, ReadOutcome, machine, stopped, frameIn, Listed, found, refused}
-use Rattle.table.specs.File.{onCounted, ended, admission, onChecked, admitted, rowsFrom, RowsOutcome, finishOf, admitOf}
+use Rattle.table.specs.File.{onCounted, ended, onChecked, admitted, rowsFrom, RowsOutcome, finishOf}
+use Rattle.table.specs.Adding.{admission, admitOf}
 use Rattle.table.proofs.RowLaws.{length-rows}
-use Rattle.table.proofs.FrameLaws.{took-says, admit-full}
+use Rattle.table.proofs.FrameLaws.{took-says}
+use Rattle.table.proofs.AddingLaws.{admit-full, admit-few, admit-says}
 use Rattle.table.proofs.CellLaws.{rows-cells, put-cells}
 
 -- one record decides the next step of the scan
@@ -87,33 +89,16 @@ admitted-is states at ts t next = by (inRange states t) (has t ts)
     by true false = refl
     by false d = refl
 
--- what the tests 3, 4, 5 found
-admit-says : (states at n : ℕ) (ts : List Transition) (t : Transition) → n < 256 → admitOf states at n ts t ≡ Sound → (inRange states t ≡ true) × (has t ts ≡ false)
-unfolding admitOf
-admit-says states at n ts t h e = by-range (inRange states t) refl (rw (lt-leb 256 n h) at e)
-  where
-    by-twin : (b : Bool) → has t ts ≡ b → cond b (Refused (Repeated at)) Sound ≡ Sound → has t ts ≡ false
-    by-twin true q e = let z : _≡_ {A = ℕ} 0 1 = cc in absurd (omega arith)
-    by-twin false q e = q
-
-    by-range : (b : Bool) → inRange states t ≡ b → cond b (cond (has t ts) (Refused (Repeated at)) Sound) (Refused (OutOfRange at)) ≡ Sound
-        → (inRange states t ≡ true) × (has t ts ≡ false)
-    by-range true q e = (q, by-twin (has t ts) refl e)
-    by-range false q e = let z : _≡_ {A = ℕ} 0 1 = cc in absurd (omega arith)
-
-admit-few : (states at n : ℕ) (ts : List Transition) (t : Transition) → n ≤ 256 → admitOf states at n ts t ≡ Sound → n < 256
-unfolding admitOf
-admit-few states at n ts t f e = dite (decLt n 256) (λ h. h) (λ h. let q = rw (le-leb 256 n (omega arith)) at e in let z : _≡_ {A = ℕ} 0 1 = cc in absurd (omega arith))
-
-admit-stop : (states at n : ℕ) (ts : List Transition) (t : Transition) (x : Refusal) → n < 256 → Refused x ≡ admitOf states at n ts t
+-- a transition that was refused
+admit-stop : (states at n : ℕ) (ts : List Transition) (t : Transition) (x : Refusal) → n < 256 → Refused x ≡ admitOf states at n (has t ts) t
     → (next : Listed) → admitted states at ts t next ≡ refused (refusalNumber x) (refusalPlace x)
 unfolding admitOf
 admit-stop states at n ts t x h e next =
-    let q : Refused x ≡ admission states at ts t = rw (lt-leb 256 n h) at e in
+    let q : Refused x ≡ admission states at (has t ts) t = rw (lt-leb 256 n h) at e in
     ap (λ (a : Checked). onChecked a next) (sym q)
 
-admit-full-says : (states at n : ℕ) (ts : List Transition) (t : Transition) (x : Refusal) → 256 ≤ n → Refused x ≡ admitOf states at n ts t → x ≡ Full at
-admit-full-says states at n ts t x h e = let f : Refused x ≡ Refused (Full at) = e ∙ sym (admit-full states at n ts t h) in cc
+admit-full-says : (states at n : ℕ) (met : Bool) (t : Transition) (x : Refusal) → 256 ≤ n → Refused x ≡ admitOf states at n met t → x ≡ Full at
+admit-full-says states at n met t x h e = let f : Refused x ≡ Refused (Full at) = e ∙ sym (admit-full states at n met t h) in cc
 
 module _ (file : List ℕ) (states : ℕ) (cells : List ℕ) (n at : ℕ) (k : Kept file states cells n at) where
   abbrev rest : List ℕ
@@ -142,19 +127,19 @@ module _ (file : List ℕ) (states : ℕ) (cells : List ℕ) (n at : ℕ) (k : K
   kept-took r e = record { few = k .few; inside = omega (arith, took-says at rest r e .long, length-drop at file, k .inside); is = e }
 
   -- a transition that was refused is the refusal of the whole
-  pub kept-stop : (r : Row) → frameIn at rest ≡ Took r → (x : Refusal) → Refused x ≡ admitOf states at n ts (said r)
+  pub kept-stop : (r : Row) → frameIn at rest ≡ Took r → (x : Refusal) → Refused x ≡ admitOf states at n (has (said r) ts) (said r)
       → rowsFrom 256 states 8 (drop 8 file) [] ≡ refused (refusalNumber x) (refusalPlace x)
   kept-stop r e x q =
       sym (k .same) ∙ dite (decLt n 256)
       (λ h. let room : 256 - n ≡ suc (256 - (n + 1)) = omega arith in
       rw (room, rows-took states at rest ts (256 - (n + 1)) r e) (admit-stop states at n ts (said r) x h q _))
       (λ h. let room : 256 - n ≡ 0 = omega arith in
-      rw (room, rows-full states at rest ts r e, admit-full-says states at n ts (said r) x (omega arith) q))
+      rw (room, rows-full states at rest ts r e, admit-full-says states at n (has (said r) ts) (said r) x (omega arith) q))
 
   -- a transition that was taken is stored behind the others, and the scan goes on behind it
-  module _ (r : Row) (next : List ℕ) (a : Sound ≡ admitOf states at n ts (said r)) (q : next ≡ putRow cells n (said r)) where
+  module _ (r : Row) (next : List ℕ) (a : Sound ≡ admitOf states at n (has (said r) ts) (said r)) (q : next ≡ putRow cells n (said r)) where
     abbrev few : n < 256
-    few = admit-few states at n ts (said r) (k .few) (sym a)
+    few = admit-few states at n (has (said r) ts) (said r) (sym a)
 
     shaped : next ≡ cellsOf (ts ++ (said r ∷ []))
     shaped = q ∙ ap (λ (c : List ℕ). putRow c n (said r)) (k .shape) ∙ put-cells ts n (said r) (length-rows cells n) few
@@ -167,7 +152,7 @@ module _ (file : List ℕ) (states : ℕ) (cells : List ℕ) (n at : ℕ) (k : K
     pub kept-more : frameIn at rest ≡ Took r → Kept file states next (n + 1) (at + 18)
     kept-more e =
         let h : n < 256 = few in
-        let s = admit-says states at n ts (said r) h (sym a) in
+        let s = admit-says states at n (has (said r) ts) (said r) h (sym a) in
         let long = took-says at rest r e .long in
         let room : 256 - n ≡ suc (256 - (n + 1)) = omega arith in
         let d : drop 18 rest ≡ drop (at + 18) file = drop-drop 18 at file in

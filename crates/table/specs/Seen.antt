@@ -1,13 +1,13 @@
 -- Which transitions were met, by a mark of each at one of few places. A place rules a transition out and never in: `has` decides.
 use mathlib.Core.Path.{_≡_}
+use mathlib.Core.Bool.{Bool, _||_, cond}
 use mathlib.Core.Logic.{_⊎_}
-use mathlib.Core.List.{List, [], _∷_, _++_}
+use mathlib.Core.List.{List}
 use Prim.Native.Nat.{ℕ, _+_, _*_, _/_, _%_}
-use lib.ListN.{length, getD}
+use lib.Dec.{eqb}
+use lib.ListN.{length, getD, set}
 use Rattle.model.specs.Lists.{In}
 use Rattle.model.specs.Table.{Transition}
-use Rattle.table.specs.declared.Checked.{Checked}
-use Rattle.table.specs.declared.Checked.the-variants.{Sound, Refused}
 
 -- the seven numbers mixed
 abbrev pub keyOf : Transition → ℕ
@@ -21,15 +21,23 @@ placeOf key = key / 4194304 % 2048
 abbrev pub markOf : ℕ → ℕ
 markOf key = key / 8589934592 % 128 + 1
 
--- at its place stands its mark, or 255 where unlike ones met
-abbrev pub Stands : List ℕ → ℕ → Type 0
-Stands seen key = (getD seen (placeOf key) 0 ≡ markOf key) ⊎ (getD seen (placeOf key) 0 ≡ 255)
+-- what stands at the place: 0 where none was met, the mark of those that were, 255 where unlike ones were
+abbrev pub markAt : List ℕ → ℕ → ℕ
+markAt seen key = getD seen (placeOf key) 0
 
+-- the place leaves it open that a transition with this key was met
+abbrev pub Stands : List ℕ → ℕ → Type 0
+Stands seen key = (markAt seen key ≡ markOf key) ⊎ (markAt seen key ≡ 255)
+
+-- the same as a test
+unfoldable pub suspect : List ℕ → ℕ → Bool
+suspect seen key = eqb (markAt seen key) (markOf key) || eqb (markAt seen key) 255
+
+-- the places after it is met
+unfoldable pub noted : List ℕ → ℕ → List ℕ
+noted seen key = set seen (placeOf key) (cond (eqb (markAt seen key) 0) (markOf key) 255)
+
+-- all of these were met
 pub record Marked (seen : List ℕ) (ts : List Transition) : Type 0 where
   pub size : length seen ≡ 2048
   pub each : (t : Transition) → In t ts → Stands seen (keyOf t)
-
--- the transition t after ts is marked if it was taken
-abbrev pub AdmitSeen : Checked → List ℕ → List Transition → Transition → Type 0
-AdmitSeen Sound seen ts t = Marked seen (ts ++ (t ∷ []))
-AdmitSeen (Refused r) seen ts t = Unit {0}

@@ -2,7 +2,9 @@
 ghost use mathlib.Core.Path.{_≡_};
 ghost use Rattle.model.specs.Answers.{Tells};
 ghost use Rattle.table.specs.Refusal.{refusalNumber, refusalPlace, checkedFields};
-ghost use Rattle.table.specs.Rows.{rowOf, tableIn, machineOf};
+ghost use Rattle.table.specs.Rows.{rowOf, said, tableIn, machineOf};
+ghost use Rattle.table.specs.Check.{headFine};
+ghost use Rattle.table.specs.Adding.{Added};
 ghost use Rattle.table.specs.Fit.{Sound};
 ghost use Rattle.table.specs.Tests.{CheckOutcome};
 ghost use Rattle.table.specs.File.{ReadOutcome, readFile};
@@ -40,6 +42,9 @@ pub struct Row {
 
 // Seven numbers for each of 256 transitions; how they stand there is known to this crate alone.
 pub type Cells = [u16; 1792];
+
+// Marks of a table's transitions, all 0 before the first: they tell most transitions from all others at one look.
+pub type Seen = [u8; 2048];
 
 // A table. Only the crate knows how the transitions stand in the cells.
 pub struct Table {
@@ -143,6 +148,22 @@ pub fn row_of(cells: &Cells, i: usize) -> Row
     rows::row_at(cells, i)
 }
 
+// 1 to 32 states, the initial one among them.
+pub fn head_fine(states: u16, initial: u16) -> bool
+    ensures { λ b. ⌜ b ≡ headFine states initial ⌝ }
+{
+    if states < 1 {
+        return false;
+    }
+    if 32 < states {
+        return false;
+    }
+    if states <= initial {
+        return false;
+    }
+    true
+}
+
 // Whether the search may go through these transitions: at most 256, every number within its range. Equal ones are not looked for.
 pub fn in_limits(cells: &Cells, count: usize) -> bool
     ensures { λ b. ⌜ Tells b (Sound (now (cells .entry)) count) ⌝ }
@@ -153,6 +174,30 @@ pub fn in_limits(cells: &Cells, count: usize) -> bool
     ranges::all_in_range(cells, count, 32)
 }
 
+// A transition after n others: 3, 4, 5 at the place that comes with it, or it is stored. If its numbers are within their ranges, it is marked.
+pub fn add_row(
+    cells: &mut Cells,
+    seen: &mut Seen,
+    states: u16,
+    n: usize,
+    at: usize,
+    r: Row,
+) -> Checked
+    ensures { λ a. ⌜ Added states at n (said r) (now (cells .entry)) (now (seen .entry)) a (now (cells .exit)) (now (seen .exit)) ⌝ }
+{
+    if 256 <= n {
+        return Checked::Refused(Refusal::Full(at));
+    }
+    if !ranges::in_range(states, r) {
+        return Checked::Refused(Refusal::OutOfRange(at));
+    }
+    if seen::seen_before(cells, n, r, seen::key(r), seen) {
+        return Checked::Refused(Refusal::Repeated(at));
+    }
+    rows::put_row(cells, n, r);
+    Checked::Sound
+}
+
 // The check of a table that is lent in parts: 3, then 4, then 5, at place 0.
 pub fn check_parts(states: u16, initial: u16, count: usize, cells: &Cells) -> Checked
     ensures { λ r. ⌜ CheckOutcome (machineOf (tableIn states initial count (now (cells .entry)))) (checkedFields r) ⌝ }
@@ -160,7 +205,7 @@ pub fn check_parts(states: u16, initial: u16, count: usize, cells: &Cells) -> Ch
     if 256 < count {
         return Checked::Refused(Refusal::Full(0));
     }
-    if !ranges::head_fine(states, initial) {
+    if !head_fine(states, initial) {
         return Checked::Refused(Refusal::OutOfRange(0));
     }
     if !ranges::all_in_range(cells, count, states) {

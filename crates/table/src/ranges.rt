@@ -10,24 +10,8 @@ ghost use Rattle.model.specs.Answers.{Tells};
 ghost use Rattle.model.specs.Lists.{All};
 ghost use Rattle.model.specs.Table.{InRange};
 ghost use Rattle.table.specs.Rows.{rows, said};
-ghost use Rattle.table.specs.Check.{headFine, inRange};
+ghost use Rattle.table.specs.Check.{inRange};
 ghost use Rattle.model.specs.Table.{Unlike};
-
-// 1 to 32 states, the initial one among them.
-pub(crate) fn head_fine(states: u16, initial: u16) -> bool
-    ensures { λ b. ⌜ b ≡ headFine states initial ⌝ }
-{
-    if states < 1 {
-        return false;
-    }
-    if 32 < states {
-        return false;
-    }
-    if states <= initial {
-        return false;
-    }
-    true
-}
 
 // Every number of a transition within its range.
 pub(crate) fn in_range(states: u16, r: Row) -> bool

@@ -7,20 +7,15 @@ use crate::Opening;
 use crate::PartsRead;
 use crate::Refusal;
 use crate::Row;
-use crate::ranges::head_fine;
-use crate::ranges::in_range;
-use crate::rows::put_row;
-use crate::seen::Seen;
-use crate::seen::key;
-use crate::seen::seen_before;
+use crate::add_row;
+use crate::head_fine;
 ghost use mathlib.Core.Path.{_≡_};
 ghost use mathlib.Core.List.{[]};
 ghost use Prim.Native.Nat.{_+_, _≤_};
 ghost use lib.ListN.{length, drop};
 ghost use Rattle.table.specs.Refusal.{checkedFields};
 ghost use Rattle.table.specs.Rows.{rows, said, cellsOf, tableIn, tableOf};
-ghost use Rattle.table.specs.File.{rowIn, frameIn, openedIn, headIn, finishOf, bare, rowsFrom, RowsOutcome, ReadOutcome, readFile, admitOf, admitCells};
-ghost use Rattle.table.specs.Seen.{Marked, AdmitSeen};
+ghost use Rattle.table.specs.File.{rowIn, frameIn, openedIn, headIn, finishOf, bare, rowsFrom, RowsOutcome, ReadOutcome, readFile};
 
 // What a refused file gives: the table of one state and no transitions.
 fn refused(r: Refusal, cells: &mut Cells) -> PartsRead
@@ -109,24 +104,6 @@ fn frame(file: &[u8], at: usize) -> Frame
     Frame::Bad(Refusal::Cut(at))
 }
 
-// A transition after n others: 3, 4, 5, else it is stored, and marked as met.
-fn admit(cells: &mut Cells, seen: &mut Seen, states: u16, n: usize, at: usize, r: Row) -> Checked
-    requires { ⌜ (n ≤ 256) × Marked (now seen) (rows (now cells) n) ⌝ }
-    ensures { λ a. ⌜ (a ≡ admitOf states at n (rows (now (cells .entry)) n) (said r)) × (now (cells .exit) ≡ admitCells a (now (cells .entry)) n (said r)) × AdmitSeen a (now (seen .exit)) (rows (now (cells .entry)) n) (said r) ⌝ }
-{
-    if 256 <= n {
-        return Checked::Refused(Refusal::Full(at));
-    }
-    if !in_range(states, r) {
-        return Checked::Refused(Refusal::OutOfRange(at));
-    }
-    if seen_before(cells, n, r, key(r), seen) {
-        return Checked::Refused(Refusal::Repeated(at));
-    }
-    put_row(cells, n, r);
-    Checked::Sound
-}
-
 // The end record must be the last of the file.
 fn finish(file: &[u8], at: usize, n: usize) -> Counted
     requires { ⌜ at + 4 ≤ length (now file) ⌝ }
@@ -156,7 +133,7 @@ fn read_rows(file: &[u8], states: u16, cells: &mut Cells) -> Counted
                 return finish(file, at, n);
             }
             Frame::Took(t) => {
-                let a = admit(cells, &mut seen, states, n, at, t);
+                let a = add_row(cells, &mut seen, states, n, at, t);
                 if let Checked::Refused(r) = a {
                     return Counted::Stop(r);
                 }

@@ -1,16 +1,13 @@
 // Whether a transition was met before: nearly always one place of a small array tells.
 use crate::Cells;
 use crate::Row;
+use crate::Seen;
 use crate::rows::has_row;
 ghost use mathlib.Core.Path.{_≡_};
-ghost use mathlib.Core.List.{[], _∷_, _++_};
 ghost use Prim.Native.Nat.{_≤_};
-ghost use Rattle.table.specs.Rows.{rows, said};
-ghost use Rattle.table.specs.Check.{has};
-ghost use Rattle.table.specs.Seen.{keyOf, Marked};
-
-// 0 where no transition was met, the mark of those that were, or 255 where unlike ones were.
-pub(crate) type Seen = [u8; 2048];
+ghost use Rattle.table.specs.Rows.{said};
+ghost use Rattle.table.specs.Seen.{keyOf, noted};
+ghost use Rattle.table.specs.Adding.{metIn};
 
 // The seven numbers mixed, by few products; nothing wraps.
 pub(crate) fn key(r: Row) -> u64
@@ -22,10 +19,10 @@ pub(crate) fn key(r: Row) -> u64
         + r.d as u64 * 2654435769
 }
 
-// Whether r is one of the first n transitions, which are marked; then r is marked too. Its key comes with it, so that r stays in registers.
+// Whether r is one of the first n transitions, if its place leaves that open; then r is marked. Its key comes with it, so that r stays in registers.
 pub(crate) fn seen_before(cells: &Cells, n: usize, r: Row, mixed: u64, seen: &mut Seen) -> bool
-    requires { ⌜ (n ≤ 256) × (mixed ≡ keyOf (said r)) × Marked (now seen) (rows (now cells) n) ⌝ }
-    ensures { λ b. ⌜ (b ≡ has (said r) (rows (now (cells .entry)) n)) × Marked (now (seen .exit)) (rows (now (cells .entry)) n ++ (said r ∷ [])) ⌝ }
+    requires { ⌜ (n ≤ 256) × (mixed ≡ keyOf (said r)) ⌝ }
+    ensures { λ b. ⌜ (b ≡ metIn (now (seen .entry)) (now (cells .entry)) n (said r)) × (now (seen .exit) ≡ noted (now (seen .entry)) (keyOf (said r))) ⌝ }
 {
     let k = (mixed / 4194304 % 2048) as usize;
     let m = (mixed / 8589934592 % 128 + 1) as u8;

@@ -7,7 +7,7 @@ use Rattle.table.specs.Check.{has}
 use Rattle.table.specs.Seen.{Marked}
 use Rattle.model.specs.Table.{Unlike}
 use Rattle.table.proofs.RowLaws.{unlike-none, unlike-next, unlike-stop}
-use Rattle.table.proofs.SeenLaws.{marked-start, marked-row}
+use Rattle.table.proofs.SeenLaws.{marked-start, marked-has, marked-noted, marked-row}
 use Rattle.table.proofs.ranges.all_unlike.Statement.{statement}
 use Rattle.table.proofs.ranges.all_unlike.Tie as tie
 
@@ -27,14 +27,15 @@ key-requires : tie.Need-key-requires Inv-loop μ-loop
 key-requires c κs = search needs
 
 seen-before-requires : tie.Need-seen-before-requires Inv-loop μ-loop
-seen-before-requires c κs = (omega arith, c .before .key .ensures, c .before .before .before .before .loop .inv .2)
+seen-before-requires c κs = (omega arith, c .before .key .ensures)
 
 -- the test of transition i
 after-seen-before : (p : tie.After-seen-before Inv-loop μ-loop)
     → let a = p .before .before .before .before .before .before .args in
     let i = p .before .before .before .before .before .loop .i in
     p .seen-before .result ≡ has (said (rowAt (a .cells .now) i)) (rows (a .cells .now) i)
-after-seen-before p = rw (p .before .before .before .row-at .ensures) at (p .seen-before .ensures .0)
+after-seen-before p =
+    rw (p .before .before .before .row-at .ensures) at (p .seen-before .ensures .0 ∙ marked-has (p .before .before .before .before .before .loop .inv .2) _)
 
 returns : tie.Need-returns Inv-loop μ-loop
 returns c = unlike-stop _ _ _ (omega arith) (sym (after-seen-before (c .before)) ∙ c .if1 .taken)
@@ -50,7 +51,7 @@ loop-again c =
     let l = c .before .before .before .before .before .before .loop in (
       omega arith,
       unlike-next _ _ (l .inv .1) (sym (after-seen-before (c .before)) ∙ c .if1 .left),
-      marked-row _ (l .i) (c .before .before .before .before .row-at .ensures) (c .before .seen-before .ensures .1),
+      marked-row _ (l .i) (c .before .before .before .before .row-at .ensures) (rw (c .before .seen-before .ensures .1) (marked-noted (l .inv .2) _)),
     )
 
 returns-2 : tie.Need-returns-2 Inv-loop μ-loop

@@ -9,6 +9,7 @@ use Rattle.table.specs.Seen.{Marked}
 use Rattle.table.specs.declared.Frame.the-variants.{Last}
 use Rattle.table.proofs.ReadLaws.{Kept, TookAfter, kept-start, kept-bad, kept-last, kept-took, kept-stop, kept-rows, kept-more}
 use Rattle.table.proofs.SeenLaws.{marked-start}
+use Rattle.table.proofs.AddingLaws.{added-answer, added-marked}
 use lib.ListN.{length-drop}
 use Rattle.table.proofs.FrameLaws.{last-says}
 use Rattle.table.proofs.reader.read_rows.Statement.{statement}
@@ -68,10 +69,8 @@ took p =
     kept-took (p .before .before .before .before .before .args .file .now) (p .before .before .before .before .before .args .states) (l .cells) (l .n) (l .at) (l .inv .0) _
     (sym (p .before .before .frame .ensures) ∙ p .f2 .given .1)
 
-admit-requires : tie.Need-admit-requires Inv-loop μ-loop
-admit-requires c κs =
-    let v = c .before .before .before .before .before .before .loop .inv in
-    (v .0 .few, v .1)
+add-row-requires : tie.Need-add-row-requires Inv-loop μ-loop
+add-row-requires c κs = search needs
 
 enum-known-a : tie.Need-enum-known-a Inv-loop μ-loop
 enum-known-a c = search needs
@@ -81,7 +80,7 @@ returns-3 c =
     let l = c .before .before .before .before .before .before .before .before .before .before .loop in
     let a = c .before .before .before .before .before .before .before .before .before .before .before .before .args in
     kept-stop (a .file .now) (a .states) (l .cells) (l .n) (l .at) (l .inv .0) _ (took (c .before .before .before .before .before .before .before) .is) _
-    (sym (c .before .a .given .1) ∙ c .before .before .before .admit .ensures .0)
+    (sym (c .before .a .given .1) ∙ added-answer (l .inv .1) (c .before .before .before .add-row .ensures))
 
 enum-told-2 : tie.Need-enum-told-2 Inv-loop μ-loop
 enum-told-2 c = search needs
@@ -99,12 +98,10 @@ loop-again : tie.Need-loop-again Inv-loop μ-loop
 loop-again c =
     let l = c .before .before .before .before .before .before .before .before .before .loop in
     let a = c .before .before .before .before .before .before .before .before .before .before .before .args in
-    let t = c .before .before .admit in
-    let s = sym (c .enum-told2 .given .1) ∙ t .ensures .0 in
-    let w = rw (c .enum-told2 .given .1) at (t .ensures .1) in
-    let m = rw (c .enum-told2 .given .1) at (t .ensures .2) in (
-      kept-more (a .file .now) (a .states) (l .cells) (l .n) (l .at) (l .inv .0) _ _ s w (took (c .before .before .before .before .before .before) .is),
-      rw (kept-rows (a .file .now) (a .states) (l .cells) (l .n) (l .at) (l .inv .0) _ _ s w) m,
+    let d = rw (c .enum-told2 .given .1) at (c .before .before .add-row .ensures) in
+    let s = added-answer (l .inv .1) d in (
+      kept-more (a .file .now) (a .states) (l .cells) (l .n) (l .at) (l .inv .0) _ _ s (d .stores) (took (c .before .before .before .before .before .before) .is),
+      rw (kept-rows (a .file .now) (a .states) (l .cells) (l .n) (l .at) (l .inv .0) _ _ s (d .stores)) (added-marked (l .inv .1) d),
     )
 
 pub read-rows-spec : {M : Type 1} → statement M
@@ -121,7 +118,7 @@ read-rows-spec =
     finish-requires
     returns-2
     enum-known-f-2
-    admit-requires
+    add-row-requires
     enum-known-a
     returns-3
     enum-told-2

@@ -1,9 +1,8 @@
 use borrow.Author.Needs.{needs}
 use native.Mathlib.Omega.{arith}
-use mathlib.Core.Path.{refl}
-use mathlib.Core.Logic.{inl, inr}
+use mathlib.Core.Logic.{inl, inr, ⊎-elim}
 use Rattle.table.specs.Rows.{said}
-use Rattle.table.proofs.SeenLaws.{marked-other, marked-more}
+use Rattle.table.proofs.SeenLaws.{met-not, met-maybe, noted-first, noted-again}
 use Rattle.table.proofs.seen.seen_before.Statement.{statement}
 use Rattle.table.proofs.seen.seen_before.Tie as tie
 
@@ -21,10 +20,10 @@ element-write-seen c = search needs
 
 returns : tie.Need-returns
 returns c =
-    let a = c .before .before .args in
-    let p = c .before .before .pre in (
-      marked-other (p .2) (said (a .r)) (a .mixed) (p .1) (λ e. omega (arith, c .if1 .taken)) (λ e. omega (arith, c .if1 .taken)),
-      marked-more (p .2) (said (a .r)) (a .mixed) (p .1) _ (inl (refl, c .if1 .taken)),
+    let s = c .before .before in
+    let a = s .args in (
+      met-not (a .seen .now) (said (a .r)) (a .mixed) (s .pre .1) (a .cells .now) (a .n) (λ q. omega (arith, c .if1 .taken)) (λ q. omega (arith, c .if1 .taken)),
+      noted-first (a .seen .now) (said (a .r)) (a .mixed) (s .pre .1) (c .if1 .taken),
     )
 
 element-write-seen-2 : tie.Need-element-write-seen-2
@@ -32,10 +31,10 @@ element-write-seen-2 c = search needs
 
 returns-2 : tie.Need-returns-2
 returns-2 c =
-    let a = c .before .before .before .before .args in
-    let p = c .before .before .before .before .pre in (
-      marked-other (p .2) (said (a .r)) (a .mixed) (p .1) (c .before .if2 .taken) (c .if3 .taken),
-      marked-more (p .2) (said (a .r)) (a .mixed) (p .1) _ (inr refl),
+    let s = c .before .before .before .before in
+    let a = s .args in (
+      met-not (a .seen .now) (said (a .r)) (a .mixed) (s .pre .1) (a .cells .now) (a .n) (c .before .if2 .taken) (c .if3 .taken),
+      noted-again (a .seen .now) (said (a .r)) (a .mixed) (s .pre .1) (c .before .before .if1 .left),
     )
 
 has-row-requires : tie.Need-has-row-requires
@@ -43,9 +42,12 @@ has-row-requires c κs = search needs
 
 returns-3 : tie.Need-returns-3
 returns-3 c =
-    let a = c .before .before .before .before .args in
-    let p = c .before .before .before .before .pre in
-    (c .has-row .ensures, marked-more (p .2) (said (a .r)) (a .mixed) (p .1) _ (inr refl))
+    let s = c .before .before .before .before in
+    let a = s .args in (
+      met-maybe (a .seen .now) (said (a .r)) (a .mixed) (s .pre .1) (a .cells .now) (a .n)
+          (⊎-elim (λ w. inr (w .1 .left)) (λ w. inl (w .left)) (c .before .if2 .came)) (c .has-row .ensures),
+      noted-again (a .seen .now) (said (a .r)) (a .mixed) (s .pre .1) (c .before .before .if1 .left),
+    )
 
 pub seen-before-spec : {M : Type 1} → statement M
 seen-before-spec =
