@@ -10,7 +10,7 @@ use Rattle.model.specs.Stamps.{gapsFrom}
 use Rattle.model.proofs.Paths.{length-steps}
 use Rattle.wire.specs.Bytes.{le, bytes, wholes}
 use Rattle.table.specs.Tests.{Passes}
-use Rattle.table.specs.File.{readFile}
+use Rattle.table_file.specs.File.{readFile}
 use Rattle.table.proofs.TestLaws.{answered-only}
 use Rattle.places.specs.Places.{pathIn, traceTest}
 use Rattle.places.proofs.PlaceLaws.{length-wholes}

@@ -7,7 +7,7 @@ use Rattle.model.specs.Answers.{Fields, fields}
 use Rattle.model.specs.Table.{Machine}
 use Rattle.wire.specs.Bytes.{le, bytes, wholes}
 use Rattle.table.specs.Tests.{Test, unless, Answered}
-use Rattle.table.specs.File.{readFile}
+use Rattle.table_file.specs.File.{readFile}
 use Rattle.places.specs.OnFile.{onFile}
 use Rattle.places.specs.Places.{traceTest}
 use Rattle.on_bytes.specs.Replays.{ReplayOnMachine}

@@ -156,7 +156,7 @@ pub fn replay_words_bytes(
         (now (order .entry)) (now (due .entry)) (now (marks .entry))
         (wordsFields r) (now (order .exit)) (now (due .exit)) (now (marks .exit)) ⌝ }
 {
-    let a = table::read_table(file);
+    let a = table_file::read_table(file);
     let read = a.answer;
     if let Checked::Refused(r) = read {
         return Words::Refused(r);

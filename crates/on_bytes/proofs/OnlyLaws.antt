@@ -4,10 +4,10 @@ use mathlib.Core.List.{List}
 use Prim.Native.Nat.{ℕ}
 use Rattle.model.specs.Answers.{Fields}
 use Rattle.model.specs.Table.{Machine}
-use Rattle.table.specs.declared.Written.{Written}
-use Rattle.table.specs.File.{readFile}
-use Rattle.table.specs.Write.{writtenFields}
-use Rattle.table.proofs.RefusalLaws.{written-only}
+use Rattle.table_file.specs.declared.Written.{Written}
+use Rattle.table_file.specs.File.{readFile}
+use Rattle.table_file.specs.Write.{writtenFields}
+use Rattle.table_file.proofs.WrittenLaws.{written-only}
 use Rattle.table.proofs.TestLaws.{answered-only}
 use Rattle.replay.specs.declared.Replayed.{Replayed}
 use Rattle.replay.specs.Play.{replayedFields}

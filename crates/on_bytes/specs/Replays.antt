@@ -9,7 +9,7 @@ use Rattle.model.specs.Word.{Word}
 use Rattle.model.specs.Stamps.{gapsFrom, wordFrom}
 use Rattle.wire.specs.Bytes.{bytes, wholes}
 use Rattle.table.specs.Tests.{Test, unless}
-use Rattle.table.specs.File.{readFile}
+use Rattle.table_file.specs.File.{readFile}
 use Rattle.replay.specs.Play.{gapTests, PlayOutcome}
 use Rattle.places.specs.OnFile.{onFile}
 use Rattle.places.specs.Places.{pathIn, traceTest}

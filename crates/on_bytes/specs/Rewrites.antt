@@ -5,7 +5,7 @@ use Prim.Native.Nat.{ℕ, _≤_}
 use lib.ListN.{length, drop}
 use Rattle.model.specs.Answers.{Fields, fields}
 use Rattle.table.specs.Tests.{unless, Answered}
-use Rattle.table.specs.File.{readFile}
+use Rattle.table_file.specs.File.{readFile}
 use Rattle.places.specs.OnFile.{onFile}
 
 -- "writing needs at least the file's length": the file, then what stood there

@@ -1,8 +1,8 @@
 // The calls on byte buffers: the table as a file, transition and step numbers of two bytes, stamps and due times of four.
 use replay::Replayed;
 use table::Checked;
-use table::Written;
-ghost use Rattle.table.specs.Write.{writtenFields};
+use table_file::Written;
+ghost use Rattle.table_file.specs.Write.{writtenFields};
 ghost use Rattle.replay.specs.Play.{replayedFields};
 ghost use Rattle.on_bytes.specs.Replays.{ReplayBytesOutcome};
 ghost use Rattle.on_bytes.specs.Rewrites.{RewriteBytesOutcome};
@@ -13,12 +13,14 @@ mod replays;
 pub fn rewrite_bytes(file: &[u8], out: &mut [u8]) -> Written
     ensures { λ r. ⌜ RewriteBytesOutcome (now (file .entry)) (now (out .entry)) (writtenFields r) (now (out .exit)) ⌝ }
 {
-    let a = table::read_table(file);
+    let a = table_file::read_table(file);
     let read = a.answer;
     if let Checked::Refused(r) = read {
         return Written::Refused(r);
     }
-    table::write_table(a.table, out)
+    // What was read is valid: it is not tested again.
+    let t = a.table;
+    table_file::put_parts(t.states, t.initial, t.count, &t.cells, out)
 }
 
 // Replay with the table as a file and every list in bytes.
@@ -34,7 +36,7 @@ pub fn replay_bytes(
         (now (file .entry)) (now (trace .entry)) start (now (stamps .entry)) (now (order .entry)) (now (due .entry))
         (replayedFields r) (now (order .exit)) (now (due .exit)) ⌝ }
 {
-    let a = table::read_table(file);
+    let a = table_file::read_table(file);
     let read = a.answer;
     if let Checked::Refused(r) = read {
         return Replayed::Refused(r);

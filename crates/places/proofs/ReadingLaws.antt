@@ -6,15 +6,15 @@ use native.Mathlib.Omega.{arith}
 use Rattle.model.specs.Answers.{fields}
 use Rattle.model.specs.Table.{Machine, Valid}
 use Rattle.wire.specs.Bytes.{Bytes}
-use Rattle.table.specs.declared.Reading.{Reading}
+use Rattle.table_file.specs.declared.Reading.{Reading}
 use Rattle.table.specs.declared.Refusal.{Refusal}
 use Rattle.table.specs.declared.Checked.the-variants.{Sound, Refused}
 use Rattle.table.specs.Refusal.{refusalNumber, refusalPlace, refusedFields, checkedFields}
 use Rattle.table.specs.Rows.{machineOf, tableOf}
-use Rattle.table.specs.File.{Scan, machine, stopped, readFile, ReadOutcome}
+use Rattle.table_file.specs.File.{Scan, machine, stopped, readFile, ReadOutcome}
 use Rattle.table.proofs.RefusalLaws.{refusal-some}
 use Rattle.table.proofs.CellLaws.{machine-table}
-use Rattle.table.proofs.FileLaws.{sound, places}
+use Rattle.table_file.proofs.FileLaws.{sound, places}
 use Rattle.places.specs.OnFile.{onFile}
 
 module _ (l : List ℕ) (a : Reading) (read : ReadOutcome (readFile l) (checkedFields (a .answer)) (a .table)) where

@@ -9,12 +9,12 @@ use Rattle.model.specs.Lists.{All, all-nil, all-cons, over}
 use Rattle.model.specs.Table.{Machine, Valid}
 use Rattle.wire.specs.Bytes.{bytes, placed, Bytes, les, le, wholes}
 use Rattle.wire.proofs.Bytes.{Held, les-bytes, length-bytes}
-use Rattle.table.specs.File.{readFile}
+use Rattle.table_file.specs.File.{readFile}
 use Rattle.table.specs.Tests.{Test, unless, Passes, Fails, afterTable, Answered, refuses, answers}
 use Rattle.table.specs.Showing.{Showing, says-none, says-shown, ShownOn, shownIn, Agree}
 use Rattle.table.proofs.TestLaws.{Numbered, passes-fails}
 use Rattle.table.proofs.ShowingLaws.{Pinned, showing-map, told-is, told-plain, told-agree, told-only}
-use Rattle.table.proofs.FileLaws.{sound, places}
+use Rattle.table_file.proofs.FileLaws.{sound, places}
 use Rattle.places.specs.ShownBytes.{roomTests, ShownBytes, ShownOnFile}
 use Rattle.places.proofs.PlaceLaws.{both-none, both-over}
 use Rattle.places.proofs.AgreeLaws.{after-fails}

@@ -8,7 +8,7 @@ use Rattle.model.specs.Lists.{over}
 use Rattle.model.specs.Table.{Machine}
 use Rattle.wire.specs.Bytes.{bytes}
 use Rattle.table.specs.Tests.{Test, unless, Answered}
-use Rattle.table.specs.File.{readFile}
+use Rattle.table_file.specs.File.{readFile}
 use Rattle.table.specs.Showing.{Showing}
 use Rattle.places.specs.OnFile.{onFile}
 

@@ -12,9 +12,9 @@ use Rattle.model.specs.Stamps.{gapsFrom}
 use Rattle.model.proofs.Paths.{length-steps}
 use Rattle.wire.specs.Bytes.{Bytes, wholes}
 use Rattle.table.specs.Tests.{Test, Passes, Fails, Answered, refuses, answers}
-use Rattle.table.specs.File.{machine, stopped, readFile}
-use Rattle.table.proofs.FileLaws.{places, near, sound}
-use Rattle.table.proofs.WriteLaws.{length-file}
+use Rattle.table_file.specs.File.{machine, stopped, readFile}
+use Rattle.table_file.proofs.FileLaws.{places, near, sound}
+use Rattle.table_file.proofs.WriteLaws.{length-file}
 use Rattle.replay.specs.Play.{gapTests}
 use Rattle.verdict.specs.OnTrace.{TraceSays, says-steady, says-turning as trace-turning}
 use Rattle.table.specs.Showing.{Showing, says-none, says-shown}

@@ -2,14 +2,14 @@
 use night::Words;
 use replay::Replayed;
 use table::Refusal;
-use table::Written;
+use table_file::Written;
 use table_order::OnOrder;
 use table_verdict::OnTable;
 use verdict::OnTrace;
 ghost use mathlib.Core.Path.{_≡_};
 ghost use Rattle.model.specs.Answers.{fields};
 ghost use Rattle.table.specs.Refusal.{refusedFields};
-ghost use Rattle.table.specs.Write.{writtenFields};
+ghost use Rattle.table_file.specs.Write.{writtenFields};
 ghost use Rattle.replay.specs.Play.{replayedFields};
 ghost use Rattle.night.specs.Night.{wordsFields};
 ghost use Rattle.verdict.specs.OnTrace.{traceFields};

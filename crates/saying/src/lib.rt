@@ -1,8 +1,8 @@
 // What the programs read and print: a table file, numbers, refusals, verdicts. No contract can say what io reads or writes: that is run, not
 // proved. Every call is safe, ends and is lent nothing that it could change; a place that a list lacks is printed as 0.
 use table::Checked;
-use table::Reading;
 use table::Refusal;
+use table_file::Reading;
 use table_order::OnOrder;
 use table_verdict::OnTable;
 ghost use mathlib.Core.Path.{_≡_};
@@ -84,7 +84,7 @@ pub fn read_input() -> Reading
 {
     let mut file = [0u8; 8192];
     let n = io::read_full(0, &mut file);
-    let a = table::read_table(&file[..n]);
+    let a = table_file::read_table(&file[..n]);
     let read = a.answer;
     if let Checked::Refused(r) = read {
         refusal(r);

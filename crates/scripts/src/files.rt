@@ -1,7 +1,7 @@
 // A file that is read and written back, and a table as a value.
 use table::Checked;
 use table::Table;
-use table::Written;
+use table_file::Written;
 
 // Whether the first n bytes are the file's.
 fn say_alike(out: &[u8], n: usize, file: &[u8]) {
@@ -16,7 +16,7 @@ fn say_alike(out: &[u8], n: usize, file: &[u8]) {
 
 // Writes the table that was read, and compares with the file.
 fn say_back(t: Table, out: &mut [u8], file: &[u8]) {
-    let w = table::write_table(t, out);
+    let w = table_file::write_table(t, out);
     match w {
         Written::Refused(r) => crate::rest::say_refused(r),
         Written::Bytes(n) => say_alike(out, n, file),
@@ -24,7 +24,7 @@ fn say_back(t: Table, out: &mut [u8], file: &[u8]) {
 }
 
 fn read(file: &[u8]) {
-    let a = table::read_table(file);
+    let a = table_file::read_table(file);
     let r = a.answer;
     match r {
         Checked::Refused(x) => crate::rest::say_refused(x),

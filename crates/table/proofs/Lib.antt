@@ -7,9 +7,4 @@ pub mod NamedLaws
 pub mod RefusalLaws
 pub mod TestLaws
 pub mod ShowingLaws
-pub mod FrameLaws
 pub mod CellLaws
-pub mod ReadLaws
-pub mod WriteLaws
-pub mod FileLaws
-pub mod OutcomeLaws

@@ -8,10 +8,7 @@ use Rattle.table.specs.declared.Refusal.{Refusal}
 use Rattle.table.specs.declared.Refusal.the-variants.{Cut, Misplaced, Full, OutOfRange, Repeated, NoTrace, Uneven, NoRoom, Outside}
 use Rattle.table.specs.declared.Checked.{Checked}
 use Rattle.table.specs.declared.Checked.the-variants.{Sound, Refused}
-use Rattle.table.specs.declared.Written.{Written}
-use Rattle.table.specs.declared.Written.the-variants.{Bytes, Refused as Unwritten}
 use Rattle.table.specs.Refusal.{refusalNumber, refusalPlace, refusedFields, checkedFields}
-use Rattle.table.specs.Write.{writtenFields}
 
 -- the case of a number and a place
 made : ℕ → ℕ → Refusal
@@ -53,9 +50,3 @@ checked-only Sound Sound e = refl
 checked-only Sound (Refused s) e = absurd (omega (arith, refusal-some s, ap (λ f. f .status) e))
 checked-only (Refused r) Sound e = absurd (omega (arith, refusal-some r, ap (λ f. f .status) e))
 checked-only (Refused r) (Refused s) e = ap Refused (refused-only r s e)
-
-pub written-only : (a b : Written) → writtenFields a ≡ writtenFields b → a ≡ b
-written-only (Bytes n) (Bytes k) e = ap Bytes (ap (λ f. f .first) e)
-written-only (Bytes n) (Unwritten s) e = absurd (omega (arith, refusal-some s, ap (λ f. f .status) e))
-written-only (Unwritten r) (Bytes k) e = absurd (omega (arith, refusal-some r, ap (λ f. f .status) e))
-written-only (Unwritten r) (Unwritten s) e = ap Unwritten (refused-only r s e)

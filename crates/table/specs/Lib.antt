@@ -6,5 +6,3 @@ pub mod Seen
 pub mod Adding
 pub mod Tests
 pub mod Showing
-pub mod File
-pub mod Write

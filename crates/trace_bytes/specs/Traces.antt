@@ -8,7 +8,7 @@ use Rattle.model.specs.Lists.{over}
 use Rattle.model.specs.Table.{Machine}
 use Rattle.wire.specs.Bytes.{bytes}
 use Rattle.table.specs.Tests.{Test, unless, Answered}
-use Rattle.table.specs.File.{readFile}
+use Rattle.table_file.specs.File.{readFile}
 use Rattle.verdict.specs.OnTrace.{TraceSays}
 use Rattle.places.specs.OnFile.{onFile}
 use Rattle.places.specs.Places.{pathIn, traceTest}

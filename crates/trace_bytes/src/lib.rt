@@ -13,7 +13,7 @@ pub fn judge_trace_bytes(file: &[u8], trace: &[u8], stamps: &mut [u8]) -> OnTrac
     ensures { λ r. ⌜ JudgeTraceBytesOutcome (now (file .entry)) (now (trace .entry)) (now (stamps .entry))
         (traceFields (length (now (trace .entry)) / 2) r) (now (stamps .exit)) ⌝ }
 {
-    let a = table::read_table(file);
+    let a = table_file::read_table(file);
     let read = a.answer;
     if let Checked::Refused(r) = read {
         return OnTrace::Refused(r);

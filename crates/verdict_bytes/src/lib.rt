@@ -11,7 +11,7 @@ pub fn judge_table_bytes(file: &[u8], trace: &mut [u8], stamps: &mut [u8]) -> On
     ensures { λ r. ⌜ JudgeTableBytesOutcome (now (file .entry)) (now (trace .entry)) (now (stamps .entry)) (tableFields r)
         (now (trace .exit)) (now (stamps .exit)) ⌝ }
 {
-    let a = table::read_table(file);
+    let a = table_file::read_table(file);
     let read = a.answer;
     if let Checked::Refused(r) = read {
         return OnTable::Refused(r);

@@ -18,19 +18,19 @@ returns c =
 enum-told : tie.Need-enum-told
 enum-told c = search needs
 
-write-table-requires : tie.Need-write-table-requires
-write-table-requires c κs = search needs
+put-parts-requires : tie.Need-put-parts-requires
+put-parts-requires c κs = search needs
 
 same-length : tie.Need-same-length
 same-length c = search needs
 
 returns-2 : tie.Need-returns-2
 returns-2 c =
-    let e = c .before .before .before .before in
+    let e = c .before .before .before .before .before .before .before in
     let p = e .before .before in
     let k = p .before .before in
     let read = sound-read _ _ (p .read-table .ensures) (e .enum-told .given .1) in
-    rw read (rewritten _ _ read (λ i. k .shared-slice-known .given i .fits) _ _ _ (c .before .before .write-table .ensures))
+    rw read (rewritten _ _ read (λ i. k .shared-slice-known .given i .fits) _ _ _ (c .before .before .put-parts .ensures))
 
 pub rewrite-bytes-spec : {M : Type 1} → statement M
 rewrite-bytes-spec =
@@ -40,6 +40,6 @@ rewrite-bytes-spec =
     enum-known-read
     returns
     enum-told
-    write-table-requires
+    put-parts-requires
     same-length
     returns-2)
