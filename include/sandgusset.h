@@ -78,10 +78,10 @@ extern "C" {
 #endif
 
 /* The version: a minor one adds calls and numbers, a major one changes what a call means (CHANGELOG.md). */
-#define SANDGUSSET_VERSION "2.0.1"
+#define SANDGUSSET_VERSION "2.0.2"
 #define SANDGUSSET_VERSION_MAJOR 2
 #define SANDGUSSET_VERSION_MINOR 0
-#define SANDGUSSET_VERSION_PATCH 1
+#define SANDGUSSET_VERSION_PATCH 2
 
 /* Values of the status field. */
 #define SANDGUSSET_DONE 0           /* strict, in order, steady, replayed or written */
@@ -118,10 +118,10 @@ extern "C" {
  * that binds its functions late (linked without -z now). */
 #define SANDGUSSET_STACK_JUDGE 69632
 #define SANDGUSSET_STACK_ORDER 40960
-#define SANDGUSSET_STACK_JUDGE_TRACE 20480
-#define SANDGUSSET_STACK_REPLAY 18432
-#define SANDGUSSET_STACK_REPLAY_WORDS 18432
-#define SANDGUSSET_STACK_REWRITE 15360
+#define SANDGUSSET_STACK_JUDGE_TRACE 24576
+#define SANDGUSSET_STACK_REPLAY 17408
+#define SANDGUSSET_STACK_REPLAY_WORDS 17408
+#define SANDGUSSET_STACK_REWRITE 14336
 
 /* Judges a whole table. Refusals: 1 to 5, 8.
  *

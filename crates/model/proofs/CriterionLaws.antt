@@ -67,6 +67,15 @@ module _ (k m : Transition) where
   unfolding Below
   below-more late more h l = omega arith
 
+  -- counted from one start: the sums up to k are x and y
+  pub above-from : (u x : ℕ) → Above k m u → x + u + m .d < x + k .d
+  unfolding Above
+  above-from u x h = omega arith
+
+  pub below-from : (late y : ℕ) → Below k m late → y + k .d * 256 ≤ y + late + m .d * 256
+  unfolding Below
+  below-from late y h = omega arith
+
   -- a bound on u, where m's delay is at least one number and k's at most another
   pub above-bound : (u least top : ℕ) → Above k m u → least ≤ m .d → k .d ≤ top → u + least < top
   unfolding Above

@@ -1,2 +1,6 @@
 pub mod PairLaws
 pub mod JudgeLaws
+pub mod CalmLaws
+pub mod MarkLaws
+pub mod TimeLaws
+pub mod SearchLaws

@@ -1,2 +1,5 @@
 pub mod OnTrace
 pub mod Pairs
+pub mod Times
+pub mod Calm
+pub mod Marks

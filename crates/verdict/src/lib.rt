@@ -7,7 +7,10 @@ ghost use lib.ListN.{length};
 ghost use Rattle.table.specs.Rows.{machineOf};
 ghost use Rattle.verdict.specs.OnTrace.{traceFields, TraceOutcome};
 
+mod calm;
+mod marks;
 mod pairs;
+mod times;
 
 pub enum OnTrace {
     Steady,

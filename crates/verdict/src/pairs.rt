@@ -1,10 +1,17 @@
 // The least pair of steps that turns.
+use crate::calm;
+use crate::marks;
+use crate::marks::Sight;
+use crate::times;
+use crate::times::Numbers;
 use table::Cells;
 ghost use Prim.Native.Nat.{_<_};
 ghost use lib.ListN.{length};
 ghost use Rattle.table.specs.Rows.{named};
 ghost use Rattle.words.specs.Left.{Bounded};
+ghost use Rattle.verdict.specs.Calm.{Seen};
 ghost use Rattle.verdict.specs.Pairs.{PartnerOf, PairOf};
+ghost use Rattle.verdict.specs.Times.{Times};
 
 // The step that turns with another.
 pub(crate) enum Partner {
@@ -43,18 +50,47 @@ pub(crate) fn partner_of(cells: &Cells, trace: &[u16], k: usize) -> Partner
     Partner::Alone
 }
 
-// The least k that turns with a later step, and the least such step.
-pub(crate) fn least_pair(cells: &Cells, trace: &[u16]) -> Pair
-    requires { ⌜ Bounded (now cells) (now trace) ⌝ }
+// The least k that turns with a later step, and the least such step. The numbers only rule out.
+fn pair_by_numbers(
+    cells: &Cells,
+    trace: &[u16],
+    early: &Numbers,
+    late: &Numbers,
+    lows: &[u32; 64],
+    calm: &[bool; 512],
+) -> Pair
+    requires { ⌜ Bounded (now cells) (now trace) × Times (named (now cells) (now trace)) (now early) (now late) (length (now trace))
+        × Seen (now early) (length (now trace)) (now lows) (now calm) 0 ⌝ }
     ensures { λ r. ⌜ PairOf (named (now (cells .entry)) (now (trace .entry))) r ⌝ }
 {
+    let mut sight = Sight {
+        block: 64,
+        far: 512,
+    };
     let mut k: usize = 0;
     while k < trace.len() {
-        let found = partner_of(cells, trace, k);
-        if let Partner::With(m) = found {
-            return Pair::At(k, m);
+        sight = marks::sight_at(early, late, lows, calm, k, sight);
+        if marks::may_turn(early, late, calm, k, sight.far) {
+            let found = partner_of(cells, trace, k);
+            if let Partner::With(m) = found {
+                return Pair::At(k, m);
+            }
         }
         k += 1;
     }
     Pair::Nowhere
+}
+
+// Over numbers that are worked out first.
+pub(crate) fn least_pair(cells: &Cells, trace: &[u16]) -> Pair
+    requires { ⌜ Bounded (now cells) (now trace) ⌝ }
+    ensures { λ r. ⌜ PairOf (named (now (cells .entry)) (now (trace .entry))) r ⌝ }
+{
+    let mut early = [4294967295u32; 512];
+    let mut late = [0u32; 512];
+    times::fill(cells, trace, &mut early, &mut late);
+    let mut lows = [4294967295u32; 64];
+    let mut calm = [true; 512];
+    calm::look_back(&early, trace.len(), &mut lows, &mut calm);
+    pair_by_numbers(cells, trace, &early, &late, &lows, &calm)
 }

@@ -1,0 +1,46 @@
+// When each step responds, at the soonest and at the latest, in numbers side by side.
+use table::Cells;
+use table::Row;
+ghost use mathlib.Core.Path.{_≡_};
+ghost use Prim.Native.Nat.{_+_, _*_, _^_, _<_};
+ghost use lib.ListN.{length};
+ghost use Rattle.table.specs.Rows.{named};
+ghost use Rattle.words.specs.Left.{Bounded};
+ghost use Rattle.verdict.specs.Times.{Times};
+
+// A place for each step of the longest trace.
+pub(crate) type Numbers = [u32; 512];
+
+// The time in ticks, and the letter in the low byte.
+fn early_number(s: Row, u: u32) -> u32
+    requires { ⌜ (u + s .d) * 256 + s .output < 2 ^ 32 ⌝ }
+    ensures { λ r. ⌜ r ≡ (u + s .d) * 256 + s .output ⌝ }
+{
+    (u + s.d as u32) * 256 + s.output as u32
+}
+
+// The time in 1/256 tick.
+fn late_number(s: Row, late: u32) -> u32
+    requires { ⌜ late + s .d * 256 < 2 ^ 32 ⌝ }
+    ensures { λ r. ⌜ r ≡ late + s .d * 256 ⌝ }
+{
+    late + s.d as u32 * 256
+}
+
+// By the sums from the first step on.
+pub(crate) fn fill(cells: &Cells, trace: &[u16], early: &mut Numbers, late: &mut Numbers)
+    requires { ⌜ Bounded (now cells) (now trace) × (length (now early) ≡ 512) × (length (now late) ≡ 512) ⌝ }
+    ensures { λ _. ⌜ Times (named (now (cells .entry)) (now (trace .entry))) (now (early .exit)) (now (late .exit)) (length (now (trace .entry))) ⌝ }
+{
+    let mut u: u32 = 0;
+    let mut v: u32 = 0;
+    let mut j: usize = 0;
+    while j < trace.len() {
+        let s = words::step(cells, trace, j);
+        u += s.u as u32;
+        v += words::late_gap(s);
+        early[j] = early_number(s, u);
+        late[j] = late_number(s, v);
+        j += 1;
+    }
+}
