@@ -1,12 +1,12 @@
 -- The look back: from the last step to the first, one number more at each.
 use mathlib.Core.Path.{_≡_, _∙_}
-use mathlib.Core.Logic.{⊎-elim, dite}
+use mathlib.Core.Logic.{dite}
 use mathlib.Core.Bool.{Bool, true, false}
 use mathlib.Core.List.{List}
-use Prim.Native.Nat.{ℕ, _*_, _-_, _/_, _%_, _≤_, _<_}
+use Prim.Native.Nat.{ℕ, _-_, _/_, _%_, _≤_, _<_}
 use native.Mathlib.Omega.{arith}
 use native.Mathlib.Decide.{ℕ-discrete}
-use lib.ListN.{length, getD, set, length-set}
+use lib.ListN.{getD, set, length-set}
 use lib.Seq.{getD-set-same, getD-set-other}
 use Rattle.verdict.specs.declared.calm.Soon.{Soon}
 use Rattle.verdict.specs.Calm.{Over, Calm, Seen}
@@ -16,14 +16,6 @@ pub record Looking (early : List ℕ) (n : ℕ) (lows : List ℕ) (calm : List B
   pub within : p ≤ n
   pub over : (j : ℕ) → p ≤ j → j < n → Over s (getD early j 0)
   pub seen : Seen early n lows calm p
-
-pub looking-first : (early : List ℕ) {n : ℕ} {lows : List ℕ} {calm : List Bool} (s : Soon) → n ≤ 512 → length lows ≡ 64 → length calm ≡ 512
-    → Looking early n lows calm s n
-looking-first early s few a b = record {
-  within = omega arith;
-  over = λ j h i. absurd (omega arith);
-  seen = record { few = few; lows-size = a; calm-size = b; low = λ i j h g l. absurd (omega arith); still = λ k h l. absurd (omega arith) };
-}
 
 -- the code looks at step p, which was p - 1 before
 module _ {early : List ℕ} {n : ℕ} {lows : List ℕ} {calm : List Bool} {s : Soon} {q : ℕ} (l : Looking early n lows calm s q) (h : 0 < q)

@@ -3,4 +3,4 @@ pub mod JudgeLaws
 pub mod CalmLaws
 pub mod MarkLaws
 pub mod TimeLaws
-pub mod SearchLaws
+pub mod SightLaws

@@ -3,7 +3,7 @@ use mathlib.Core.Path.{_≡_, refl}
 use mathlib.Core.Logic.{⊎-elim, dite}
 use mathlib.Core.Bool.{Bool, true, false, not, _&&_, _||_}
 use mathlib.Core.List.{List}
-use Prim.Native.Nat.{ℕ, _+_, _*_, _-_, _/_, _%_, _≤_, _<_}
+use Prim.Native.Nat.{ℕ, _+_, _*_, _/_, _%_, _≤_, _<_}
 use native.Mathlib.Omega.{arith}
 use native.Mathlib.Decide.{decLt}
 use native.Mathlib.Nat.{eq-or-lt-of-le}
@@ -11,9 +11,7 @@ use borrow.Author.Tests.{lt-ltb, le-leb, ne-eqb}
 use lib.Dec.{ltb, leb, eqb}
 use lib.ListN.{getD}
 use Rattle.verdict.specs.declared.marks.Mark.{Mark}
-use Rattle.verdict.specs.declared.marks.Sight.{Sight}
-use Rattle.verdict.specs.Calm.{Seen}
-use Rattle.verdict.specs.Marks.{Fits, Clear, markAt, Covers, Far}
+use Rattle.verdict.specs.Marks.{Fits, Clear, markAt, Covers}
 
 -- a test has one answer
 pub apart : {b : Bool} → b ≡ true → b ≡ false → ⊥
@@ -33,35 +31,24 @@ covers-trans x y = record {
   letter = λ l h e. y .letter l h (x .letter l h e);
 }
 
-module _ {early late : List ℕ} where
-  pub clear-none : (q : Mark) (a : ℕ) → Clear early late q a a
-  clear-none q a = record { none = λ m h l. absurd (omega arith) }
+module _ {early late : List ℕ} {q : Mark} where
+  pub clear-more : {a m : ℕ} → Clear early late q a m → (Fits early late q m → ⊥) → Clear early late q a (m + 1)
+  clear-more c n = record { none = λ j h l f. ⊎-elim (λ e. n (rw e at f)) (λ i. c .none j h i f) (eq-or-lt-of-le (omega arith)) }
 
-  module _ {q : Mark} where
-    pub clear-more : {a m : ℕ} → Clear early late q a m → (Fits early late q m → ⊥) → Clear early late q a (m + 1)
-    clear-more c n = record { none = λ j h l f. ⊎-elim (λ e. n (rw e at f)) (λ i. c .none j h i f) (eq-or-lt-of-le (omega arith)) }
+  pub clear-part : {a b c d : ℕ} → Clear early late q a b → a ≤ c → d ≤ b → Clear early late q c d
+  clear-part x h i = record { none = λ m g l. x .none m (omega arith) (omega arith) }
 
-    pub clear-part : {a b c d : ℕ} → Clear early late q a b → a ≤ c → d ≤ b → Clear early late q c d
-    clear-part x h i = record { none = λ m g l. x .none m (omega arith) (omega arith) }
+  pub clear-join : {a b c : ℕ} → Clear early late q a b → Clear early late q b c → Clear early late q a c
+  clear-join {b = b} x y = record { none = λ m h l f. dite (decLt m b) (λ i. x .none m h i f) (λ n. y .none m (omega arith) l f) }
 
-    pub clear-join : {a b c : ℕ} → Clear early late q a b → Clear early late q b c → Clear early late q a c
-    clear-join {b = b} x y = record { none = λ m h l f. dite (decLt m b) (λ i. x .none m h i f) (λ n. y .none m (omega arith) l f) }
-
-    pub clear-under : {r : Mark} {a b : ℕ} → Covers q r → Clear early late q a b → Clear early late r a b
-    clear-under {r = r} v c = record {
-      none = λ m h l f. c .none m h l (record {
-        before = omega (arith, v .time, f .before);
-        after = omega (arith, v .late, f .after);
-        unlike = λ e. f .unlike (v .letter (getD early m 0 % 256) (omega arith) e);
-      });
-    }
-
-    -- from a block on from which no number is low enough
-    pub clear-beyond : {lows : List ℕ} {calm : List Bool} {n r : ℕ} → Seen early n lows calm 0 → r ≤ 64 → (r < 64 → q .time ≤ getD lows r 0)
-        → Clear early late q (8 * r) n
-    clear-beyond {lows = lows} {r = r} s w t = record {
-      none = λ m h l f. dite (decLt r 64) (λ i. omega (arith, f .before, t i, s .low r m (omega arith) h l)) (λ d. omega (arith, s .few));
-    }
+  pub clear-under : {r : Mark} {a b : ℕ} → Covers q r → Clear early late q a b → Clear early late r a b
+  clear-under {r = r} v c = record {
+    none = λ m h l f. c .none m h l (record {
+      before = omega (arith, v .time, f .before);
+      after = omega (arith, v .late, f .after);
+      unlike = λ e. f .unlike (v .letter (getD early m 0 % 256) (omega arith) e);
+    });
+  }
 
 -- the marks of the steps of block i before k, but for the calm ones, are together in q
 pub record Marked (early late : List ℕ) (calm : List Bool) (i : ℕ) (q : Mark) (k : ℕ) : Type 0 where
@@ -70,9 +57,6 @@ pub record Marked (early late : List ℕ) (calm : List Bool) (i : ℕ) (q : Mark
   pub all : (j : ℕ) → 8 * i ≤ j → j < k → getD calm j false ≡ false → Covers q (markAt early late j)
 
 module _ {early late : List ℕ} {calm : List Bool} {i : ℕ} where
-  pub marked-none : (q : Mark) → Marked early late calm i q (8 * i)
-  marked-none q = record { from = omega arith; to = omega arith; all = λ j h l. absurd (omega arith) }
-
   module _ {q : Mark} {k : ℕ} (s : Marked early late calm i q k) (h : k < 8 * i + 8) where
     pub marked-more : {r : Mark} → Covers r q → Covers r (markAt early late k) → Marked early late calm i r (k + 1)
     marked-more a b = record {
@@ -91,8 +75,3 @@ module _ {early late : List ℕ} {calm : List Bool} {i : ℕ} where
   pub marked-all : {q : Mark} {k : ℕ} → Marked early late calm i q k → 8 * i + 8 ≤ k → (j : ℕ) → j / 8 ≡ i → getD calm j false ≡ false
       → Covers q (markAt early late j)
   marked-all s h j e = s .all j (omega arith) (omega arith)
-
-  -- how far a block looks, by what its steps ask for together
-  pub far-by : {q : Mark} {n far : ℕ} → ((k : ℕ) → k / 8 ≡ i → getD calm k false ≡ false → Covers q (markAt early late k)) → far ≤ 512
-      → Clear early late q far n → Far early late calm n (record { block = i; far = far })
-  far-by v w c = record { within = w; clear = λ k h e d. clear-under (v k e d) c }

@@ -29,13 +29,23 @@ abbrev pub sofar : (Transition → ℕ) → List Transition → ℕ → ℕ → 
 sofar f tr k m = total f (take (m - suc k) (drop (suc k) tr))
 
 -- one step more
+pub sum-more : (f : Transition → ℕ) (l : List Transition) (p : ℕ) → p < length l → total f (take (suc p) l) ≡ total f (take p l) + f (at l p)
+sum-more f l p h = rw (take-suc l p none h) (omega (arith, total-append f (take p l) (at l p ∷ [])))
+
 sum-next : (f : Transition → ℕ) (tr : List Transition) (k m : ℕ) → k < m → m < length tr → sofar f tr k m + f (at tr m) ≡ total f (between k m tr)
 sum-next f tr k m h i =
     let p : ℕ = m - suc k in
     let l : List Transition = drop (suc k) tr in
     let e : m - k ≡ suc p = omega arith in
-    let g : getD l p none ≡ at tr m = getD-drop (suc k) tr p none ∙ (let q : suc k + p ≡ m = omega arith in rw q) in
-    rw (e, take-suc l p none (omega (arith, length-drop (suc k) tr)), g) (omega (arith, total-append f (take p l) (at tr m ∷ [])))
+    let g : at l p ≡ at tr m = getD-drop (suc k) tr p none ∙ (let q : suc k + p ≡ m = omega arith in rw q) in
+    rw e (omega (arith, sum-more f l p (omega (arith, length-drop (suc k) tr)), ap f g))
+
+-- of at most 512 steps
+pub sums-small : {n : ℕ} {l : List Transition} → All (InRange n) l → length l ≤ 512 → (total (λ t. t .u) l ≤ 2096640) × (total lateGap l ≤ 536739840)
+sums-small {l = l} fine few = (
+  omega (arith, total-const 4095 l, all-total (λ t. t .u) (λ t. 4095) (λ t x. omega (arith, x .wide, x .high)) fine),
+  omega (arith, total-const 1048320 l, all-total lateGap (λ t. 1048320) late-most fine),
+)
 
 -- a sum grows with its last step
 sum-grows : (f : Transition → ℕ) (tr : List Transition) (k m j : ℕ) → m ≤ j → total f (between k m tr) ≤ total f (between k j tr)
@@ -91,15 +101,10 @@ module _ {c l : List ℕ} {k : ℕ} {f : Transition} {m u late : ℕ} (seen : Lo
   next-high : late + g ≡ sumLate tr k m
   next-high = omega (arith, gap, ap lateGap es, seen .high, sum-next lateGap tr k m (seen .after) inside)
 
-  -- the sums of at most 512 steps
   pub next-small : (u + s .u ≤ 2096640) × (late + g ≤ 536739840)
   next-small =
-      let b : List Transition = between k m tr in
-      let fine : All (InRange (seen .ready .states)) b = all-between k m (seen .ready .ranged) in
-      let n : length b ≤ 512 = omega (arith, length-between k m tr inside, length-named c l) in (
-        omega (arith, next-low, total-const 4095 b, all-total (λ t. t .u) (λ t. 4095) (λ t x. omega (arith, x .wide, x .high)) fine),
-        omega (arith, next-high, total-const 1048320 b, all-total lateGap (λ t. 1048320) late-most fine),
-      )
+      let n : length (between k m tr) ≤ 512 = omega (arith, length-between k m tr inside, length-named c l, seen .ready .few) in
+      omega (arith, next-low, next-high, sums-small (all-between k m (seen .ready .ranged)) n)
 
   -- u is spent at m, and so from m on
   pub none-later : Spent f (u + s .u) → PartnerOf tr k Alone

@@ -1,30 +1,30 @@
 -- The numbers of the steps: how they are filled, and that what turns shows in them.
-use mathlib.Core.Path.{_≡_, refl, ap, _∙_}
+use mathlib.Core.Path.{_≡_, ap, _∙_}
 use mathlib.Core.Logic.{dite}
-use mathlib.Core.List.{List, [], _∷_}
+use mathlib.Core.List.{List}
 use Prim.Native.Nat.{ℕ, suc, _+_, _*_, _≤_, _<_}
 use native.Mathlib.Omega.{arith}
 use native.Mathlib.Decide.{ℕ-discrete}
 use native.Mathlib.Numerals.{add-one}
 use lib.ListN.{length, getD, set, take, length-set, length-take}
-use lib.Seq.{take-suc, getD-set-same, getD-set-other}
-use Rattle.model.specs.Lists.{All, total, between}
+use lib.Seq.{getD-set-same, getD-set-other}
+use Rattle.model.specs.Lists.{All, total}
 use Rattle.model.specs.Table.{Transition, InRange, at, none}
 use Rattle.model.specs.Shown.{lateGap}
 use Rattle.model.specs.Span.{sumU, sumLate}
 use Rattle.model.specs.Criterion.{Criterion}
 use Rattle.model.proofs.CriterionLaws.{above-from, below-from}
-use Rattle.model.proofs.Words.{late-most}
-use Rattle.model.proofs.Lists.{total-append, total-between, total-const, all-at, all-take, all-total}
+use Rattle.model.proofs.Lists.{total-between, all-at, all-take}
 use Rattle.table.specs.declared.Row.{Row}
 use Rattle.table.specs.Rows.{rowOf, said, named}
 use Rattle.table.proofs.NamedLaws.{length-named, step-named}
 use Rattle.words.specs.Left.{Bounded}
-use Rattle.verdict.specs.declared.pairs.Partner.the-variants.{With, Alone}
+use Rattle.verdict.specs.declared.pairs.Partner.the-variants.{Alone}
 use Rattle.verdict.specs.Pairs.{PartnerOf}
-use Rattle.verdict.specs.Times.{soonest, latest, Times}
+use Rattle.verdict.specs.Times.{soonest, Times}
 use Rattle.verdict.specs.Calm.{Calm}
 use Rattle.verdict.specs.Marks.{Fits, Clear, markAt}
+use Rattle.verdict.proofs.PairLaws.{sum-more, sums-small}
 
 -- the loop that fills them stands at step j
 pub record Filling (c l early late : List ℕ) (u v j : ℕ) : Type 0 where
@@ -34,73 +34,58 @@ pub record Filling (c l early late : List ℕ) (u v j : ℕ) : Type 0 where
   pub high : v ≡ total lateGap (take j (named c l))
   pub times : Times (named c l) early late j
 
--- the sum with one step more
-sum-next : (f : Transition → ℕ) (tr : List Transition) (j : ℕ) → j < length tr → total f (take (suc j) tr) ≡ total f (take j tr) + f (at tr j)
-sum-next f tr j h = rw (take-suc tr j none h) (omega (arith, total-append f (take j tr) (at tr j ∷ [])))
+-- the code looks at step j, whose row is s
+module _ {c l early late : List ℕ} {u v j : ℕ} (f : Filling c l early late u v j) (here : j < length l)
+    (s : Row) (read : s ≡ rowOf c (getD l j 0)) (g : ℕ) (gap : g ≡ lateGap (said s)) where
+  abbrev tr : List Transition
+  tr = named c l
 
-module _ {c l early late : List ℕ} where
-  pub filling-first : Bounded c l → length early ≡ 512 → length late ≡ 512 → Filling c l early late 0 0 0
-  filling-first r a b = record {
-    ready = r;
+  es : said s ≡ at tr j
+  es = step-named c l j here s read
+
+  inside : j < length tr
+  inside = rw (length-named c l) here
+
+  next-low : u + s .u ≡ total (λ t. t .u) (take (suc j) tr)
+  next-low = omega (arith, ap (λ t. t .u) es, f .low, sum-more (λ t. t .u) tr j inside)
+
+  next-high : v + g ≡ total lateGap (take (suc j) tr)
+  next-high = omega (arith, gap, ap lateGap es, f .high, sum-more lateGap tr j inside)
+
+  pub next-small : (u + s .u ≤ 2096640) × (v + g ≤ 536739840) × (s .d ≤ 240) × (s .output ≤ 255)
+  next-small =
+      let r : InRange (f .ready .states) (at tr j) = all-at none (f .ready .ranged) j inside in
+      omega (
+        arith,
+        next-low,
+        next-high,
+        sums-small (all-take (suc j) (f .ready .ranged)) (omega (arith, length-take (suc j) tr, f .ready .few)),
+        ap (λ t. t .d) es,
+        ap (λ t. t .output) es,
+        r .late,
+        r .answers,
+      )
+
+  pub filling-more : (e : ℕ) → e ≡ (u + s .u + s .d) * 256 + s .output → (w : ℕ) → w ≡ v + g + s .d * 256
+      → Filling c l (set early j e) (set late j w) (u + s .u) (v + g) (j + 1)
+  filling-more e ee w ew = record {
+    ready = f .ready;
     within = omega arith;
-    low = refl;
-    high = refl;
-    times = record { early-size = a; late-size = b; early-at = λ j h. absurd (omega arith); late-at = λ j h. absurd (omega arith) };
+    low = rw (add-one j) next-low;
+    high = rw (add-one j) next-high;
+    times = record {
+      early-size = length-set early j e ∙ f .times .early-size;
+      late-size = length-set late j w ∙ f .times .late-size;
+      early-at = λ i h. dite (ℕ-discrete i j)
+          (λ q. rw (q, getD-set-same early j e 0 (omega (arith, f .times .early-size, f .ready .few)))
+          (omega (arith, ee, next-low, ap (λ t. t .d) es, ap (λ t. t .output) es)))
+          (λ d. rw (getD-set-other early j i e 0 d) (f .times .early-at i (omega arith)));
+      late-at = λ i h. dite (ℕ-discrete i j)
+          (λ q. rw (q, getD-set-same late j w 0 (omega (arith, f .times .late-size, f .ready .few)))
+          (omega (arith, ew, next-high, ap (λ t. t .d) es)))
+          (λ d. rw (getD-set-other late j i w 0 d) (f .times .late-at i (omega arith)));
+    };
   }
-
-  -- the code looks at step j, whose row is s
-  module _ {u v j : ℕ} (f : Filling c l early late u v j) (here : j < length l) (s : Row) (read : s ≡ rowOf c (getD l j 0))
-      (g : ℕ) (gap : g ≡ lateGap (said s)) where
-    abbrev tr : List Transition
-    tr = named c l
-
-    es : said s ≡ at tr j
-    es = step-named c l j here s read
-
-    inside : j < length tr
-    inside = rw (length-named c l) here
-
-    fine : All (InRange (f .ready .states)) (take (suc j) tr)
-    fine = all-take (suc j) (f .ready .ranged)
-
-    next-low : u + s .u ≡ total (λ t. t .u) (take (suc j) tr)
-    next-low = omega (arith, ap (λ t. t .u) es, f .low, sum-next (λ t. t .u) tr j inside)
-
-    next-high : v + g ≡ total lateGap (take (suc j) tr)
-    next-high = omega (arith, gap, ap lateGap es, f .high, sum-next lateGap tr j inside)
-
-    -- the sums of at most 512 steps
-    pub next-small : (u + s .u ≤ 2096640) × (v + g ≤ 536739840) × (s .d ≤ 240) × (s .output ≤ 255)
-    next-small =
-        let b : List Transition = take (suc j) tr in
-        let n : length b ≤ 512 = omega (arith, length-take (suc j) tr, f .ready .few) in
-        let r : InRange (f .ready .states) (at tr j) = all-at none (f .ready .ranged) j inside in (
-          omega (arith, next-low, total-const 4095 b, all-total (λ t. t .u) (λ t. 4095) (λ t x. omega (arith, x .wide, x .high)) fine),
-          omega (arith, next-high, total-const 1048320 b, all-total lateGap (λ t. 1048320) late-most fine),
-          omega (arith, ap (λ t. t .d) es, r .late),
-          omega (arith, ap (λ t. t .output) es, r .answers),
-        )
-
-    pub filling-more : (e : ℕ) → e ≡ (u + s .u + s .d) * 256 + s .output → (w : ℕ) → w ≡ v + g + s .d * 256
-        → Filling c l (set early j e) (set late j w) (u + s .u) (v + g) (j + 1)
-    filling-more e ee w ew = record {
-      ready = f .ready;
-      within = omega arith;
-      low = rw (add-one j) next-low;
-      high = rw (add-one j) next-high;
-      times = record {
-        early-size = length-set early j e ∙ f .times .early-size;
-        late-size = length-set late j w ∙ f .times .late-size;
-        early-at = λ i h. dite (ℕ-discrete i j)
-            (λ q. rw (q, getD-set-same early j e 0 (omega (arith, f .times .early-size, f .ready .few)))
-            (omega (arith, ee, next-low, ap (λ t. t .d) es, ap (λ t. t .output) es)))
-            (λ d. rw (getD-set-other early j i e 0 d) (f .times .early-at i (omega arith)));
-        late-at = λ i h. dite (ℕ-discrete i j)
-            (λ q. rw (q, getD-set-same late j w 0 (omega (arith, f .times .late-size, f .ready .few)))
-            (omega (arith, ew, next-high, ap (λ t. t .d) es)))
-            (λ d. rw (getD-set-other late j i w 0 d) (f .times .late-at i (omega arith)));
-      };
-    }
 
 module _ {tr : List Transition} {early late : List ℕ} {n : ℕ} (t : Times tr early late (length tr)) (fine : All (InRange n) tr) where
   -- the criterion of a pair in the numbers: the only place that compares letters there

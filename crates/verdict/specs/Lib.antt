@@ -3,3 +3,4 @@ pub mod Pairs
 pub mod Times
 pub mod Calm
 pub mod Marks
+pub mod Sight

@@ -1,11 +1,9 @@
 -- What a step asks of one that it turns with, over the numbers of all steps.
 use mathlib.Core.Path.{_≡_}
-use mathlib.Core.Bool.{Bool, false}
 use mathlib.Core.List.{List}
-use Prim.Native.Nat.{ℕ, _-_, _/_, _%_, _≤_, _<_}
+use Prim.Native.Nat.{ℕ, _-_, _%_, _≤_, _<_}
 use lib.ListN.{getD}
 use Rattle.verdict.specs.declared.marks.Mark.{Mark}
-use Rattle.verdict.specs.declared.marks.Sight.{Sight}
 
 -- step m is what q asks for
 pub record Fits (early late : List ℕ) (q : Mark) (m : ℕ) : Type 0 where
@@ -26,8 +24,3 @@ pub record Covers (q r : Mark) : Type 0 where
   pub time : r .time ≤ q .time
   pub late : q .late ≤ r .late
   pub letter : (x : ℕ) → x < 256 → x ≡ q .letter → x ≡ r .letter
-
--- of n steps, none from far on is what a step of the block asks for that is not calm
-pub record Far (early late : List ℕ) (calm : List Bool) (n : ℕ) (s : Sight) : Type 0 where
-  pub within : s .far ≤ 512
-  pub clear : (k : ℕ) → k < 512 → k / 8 ≡ s .block → getD calm k false ≡ false → Clear early late (markAt early late k) (s .far) n

@@ -10,6 +10,7 @@ ghost use Rattle.verdict.specs.OnTrace.{traceFields, TraceOutcome};
 mod calm;
 mod marks;
 mod pairs;
+mod sight;
 mod times;
 
 pub enum OnTrace {

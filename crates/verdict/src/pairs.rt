@@ -1,7 +1,7 @@
 // The least pair of steps that turns.
 use crate::calm;
-use crate::marks;
-use crate::marks::Sight;
+use crate::sight;
+use crate::sight::Sight;
 use crate::times;
 use crate::times::Numbers;
 use table::Cells;
@@ -69,8 +69,8 @@ fn pair_by_numbers(
     };
     let mut k: usize = 0;
     while k < trace.len() {
-        sight = marks::sight_at(early, late, lows, calm, k, sight);
-        if marks::may_turn(early, late, calm, k, sight.far) {
+        sight = sight::sight_at(early, late, lows, calm, k, sight);
+        if sight::may_turn(early, late, calm, k, sight.far) {
             let found = partner_of(cells, trace, k);
             if let Partner::With(m) = found {
                 return Pair::At(k, m);

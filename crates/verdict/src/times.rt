@@ -1,4 +1,4 @@
-// When each step responds, at the soonest and at the latest, in numbers side by side.
+// When each step responds, at the soonest and at the latest: numbers side by side, by which the search rules steps out.
 use table::Cells;
 use table::Row;
 ghost use mathlib.Core.Path.{_≡_};
@@ -11,7 +11,7 @@ ghost use Rattle.verdict.specs.Times.{Times};
 // A place for each step of the longest trace.
 pub(crate) type Numbers = [u32; 512];
 
-// The time in ticks, and the letter in the low byte.
+// The soonest time in ticks, and the letter in the low byte.
 fn early_number(s: Row, u: u32) -> u32
     requires { ⌜ (u + s .d) * 256 + s .output < 2 ^ 32 ⌝ }
     ensures { λ r. ⌜ r ≡ (u + s .d) * 256 + s .output ⌝ }
@@ -19,7 +19,7 @@ fn early_number(s: Row, u: u32) -> u32
     (u + s.d as u32) * 256 + s.output as u32
 }
 
-// The time in 1/256 tick.
+// The latest time in 1/256 tick.
 fn late_number(s: Row, late: u32) -> u32
     requires { ⌜ late + s .d * 256 < 2 ^ 32 ⌝ }
     ensures { λ r. ⌜ r ≡ late + s .d * 256 ⌝ }
@@ -27,7 +27,7 @@ fn late_number(s: Row, late: u32) -> u32
     late + s.d as u32 * 256
 }
 
-// By the sums from the first step on.
+// Both numbers of each step, by the sums from the first step on.
 pub(crate) fn fill(cells: &Cells, trace: &[u16], early: &mut Numbers, late: &mut Numbers)
     requires { ⌜ Bounded (now cells) (now trace) × (length (now early) ≡ 512) × (length (now late) ≡ 512) ⌝ }
     ensures { λ _. ⌜ Times (named (now (cells .entry)) (now (trace .entry))) (now (early .exit)) (now (late .exit)) (length (now (trace .entry))) ⌝ }

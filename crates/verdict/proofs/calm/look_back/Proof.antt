@@ -1,18 +1,9 @@
 use borrow.Author.Needs.{needs}
 use native.Mathlib.Omega.{arith}
-use native.Mathlib.Numerals.{add-one}
-use mathlib.Core.Path.{_≡_, refl, sym, ap, _∙_}
-use mathlib.Core.Bool.{Bool, true, false}
-use mathlib.Core.List.{List, [], _∷_, _++_}
-use Prim.Native.Nat.{ℕ, _+_, _*_, _≤_, _<_, _-_}
-use lib.ListN.{length, take, drop, getD, set}
-use Rattle.verdict.proofs.CalmLaws.{Looking, looking-first, looking-more, looking-block}
+use mathlib.Core.Path.{_≡_}
+use Rattle.verdict.proofs.CalmLaws.{Looking, looking-more, looking-block}
 use Rattle.verdict.proofs.calm.look_back.Statement.{statement}
 use Rattle.verdict.proofs.calm.look_back.Tie as tie
-use Rattle.verdict.proofs.calm.look_back.Reads as reads
-use Rattle.verdict.proofs.calm.look_back.Lts as lts
-use Rattle.verdict.proofs.calm.Soon.after.Reads as after-reads
-use Rattle.verdict.proofs.calm.Soon.with.Reads as with-reads
 
 abbrev Inv-loop : tie.InvT-loop
 Inv-loop early n lows₀ calm₀ s₀ p₀ lows calm s p = Looking early n lows calm s p

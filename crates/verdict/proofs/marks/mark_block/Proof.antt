@@ -1,20 +1,11 @@
 use borrow.Author.Needs.{needs}
 use native.Mathlib.Omega.{arith}
-use native.Mathlib.Numerals.{add-one}
-use mathlib.Core.Path.{_≡_, refl, sym, ap, _∙_}
-use mathlib.Core.Bool.{Bool, true, false}
-use mathlib.Core.List.{List, [], _∷_, _++_}
-use Prim.Native.Nat.{ℕ, _+_, _*_, _≤_, _<_, _-_}
-use lib.ListN.{length, take, drop, getD, set}
-use Rattle.verdict.proofs.MarkLaws.{Marked, marked-none, marked-more, marked-calm, marked-all}
-use borrow.Author.Tests.{not-false}
 use mathlib.Core.Logic.{⊎-elim}
+use Prim.Native.Nat.{_+_, _*_, _-_}
+use borrow.Author.Tests.{not-false}
+use Rattle.verdict.proofs.MarkLaws.{Marked, marked-more, marked-calm, marked-all}
 use Rattle.verdict.proofs.marks.mark_block.Statement.{statement}
 use Rattle.verdict.proofs.marks.mark_block.Tie as tie
-use Rattle.verdict.proofs.marks.mark_block.Reads as reads
-use Rattle.verdict.proofs.marks.mark_block.Lts as lts
-use Rattle.verdict.proofs.marks.Mark.with.Reads as with-reads
-use Rattle.verdict.proofs.marks.mark_at.Reads as mark-at-reads
 
 abbrev Inv-loop : tie.InvT-loop
 Inv-loop early late calm i all₀ k₀ all k = Marked early late calm i all k

@@ -1,25 +1,17 @@
 use borrow.Author.Needs.{needs}
 use native.Mathlib.Omega.{arith}
-use native.Mathlib.Numerals.{add-one}
-use mathlib.Core.Path.{_≡_, refl, sym, ap, _∙_}
-use mathlib.Core.Bool.{Bool, true, false}
-use mathlib.Core.List.{List, [], _∷_, _++_}
-use Prim.Native.Nat.{ℕ, _+_, _*_, _≤_, _<_, _-_}
-use lib.ListN.{length, take, drop, getD, set}
-use Rattle.verdict.proofs.SearchLaws.{Searching, searching-first, searching-more, ruled-out}
-use Rattle.verdict.proofs.PairLaws.{passed-all, least-here}
+use mathlib.Core.Path.{_≡_, refl}
 use mathlib.Core.Logic.{⊎-elim}
+use Prim.Native.Nat.{_-_}
+use lib.ListN.{length}
 use denote.Enum.Declared.{tagOf}
 use Rattle.table.proofs.NamedLaws.{length-named}
 use Rattle.verdict.specs.declared.pairs.Partner.{Partner}
 use Rattle.verdict.proofs.pairs.Partner.{the-type}
+use Rattle.verdict.proofs.PairLaws.{passed-all, least-here}
+use Rattle.verdict.proofs.SightLaws.{Searching, searching-first, searching-more, ruled-out}
 use Rattle.verdict.proofs.pairs.pair_by_numbers.Statement.{statement}
 use Rattle.verdict.proofs.pairs.pair_by_numbers.Tie as tie
-use Rattle.verdict.proofs.pairs.pair_by_numbers.Reads as reads
-use Rattle.verdict.proofs.pairs.pair_by_numbers.Lts as lts
-use Rattle.verdict.proofs.marks.may_turn.Reads as may-turn-reads
-use Rattle.verdict.proofs.marks.sight_at.Reads as sight-at-reads
-use Rattle.verdict.proofs.pairs.partner_of.Reads as partner-of-reads
 
 -- the tag that the match tests
 is-alone : (r : Partner) → tagOf the-type r ≡ 1 → r ≡ Partner.Alone

@@ -1,20 +1,11 @@
 use borrow.Author.Needs.{needs}
 use native.Mathlib.Omega.{arith}
-use native.Mathlib.Numerals.{add-one}
-use mathlib.Core.Path.{_≡_, refl, sym, ap, _∙_}
-use mathlib.Core.Bool.{Bool, true, false}
-use mathlib.Core.List.{List, [], _∷_, _++_}
-use Prim.Native.Nat.{ℕ, _+_, _*_, _≤_, _<_, _-_}
-use lib.ListN.{length, take, drop, getD, set}
-use Rattle.verdict.proofs.TimeLaws.{Filling, filling-first, next-small, filling-more}
+use mathlib.Core.Path.{_≡_, refl}
+use Prim.Native.Nat.{_-_}
+use lib.ListN.{length}
+use Rattle.verdict.proofs.TimeLaws.{Filling, next-small, filling-more}
 use Rattle.verdict.proofs.times.fill.Statement.{statement}
 use Rattle.verdict.proofs.times.fill.Tie as tie
-use Rattle.verdict.proofs.times.fill.Reads as reads
-use Rattle.verdict.proofs.times.fill.Lts as lts
-use Rattle.verdict.proofs.times.early_number.Reads as early-number-reads
-use Rattle.verdict.proofs.times.late_number.Reads as late-number-reads
-use Rattle.words.proofs.late_gap.Reads as late-gap-reads
-use Rattle.words.proofs.step.Reads as step-reads
 
 abbrev Inv-loop : tie.InvT-loop
 Inv-loop cells trace early₀ late₀ u₀ v₀ j₀ early late u v j = Filling cells trace early late u v j

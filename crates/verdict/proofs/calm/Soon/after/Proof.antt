@@ -1,16 +1,8 @@
 use borrow.Author.Needs.{needs}
 use native.Mathlib.Omega.{arith}
-use native.Mathlib.Numerals.{add-one}
-use mathlib.Core.Path.{_≡_, refl, sym, ap, _∙_}
-use mathlib.Core.Bool.{Bool, true, false}
-use mathlib.Core.List.{List, [], _∷_, _++_}
-use Prim.Native.Nat.{ℕ, _+_, _*_, _≤_, _<_, _-_}
-use lib.ListN.{length, take, drop, getD, set}
 use borrow.Author.Tests.{leb-true}
 use Rattle.verdict.proofs.calm.Soon.after.Statement.{statement}
 use Rattle.verdict.proofs.calm.Soon.after.Tie as tie
-use Rattle.verdict.proofs.calm.Soon.after.Reads as reads
-use Rattle.verdict.proofs.calm.Soon.after.Lts as lts
 
 sub-result : tie.Need-sub-result
 sub-result c = search needs

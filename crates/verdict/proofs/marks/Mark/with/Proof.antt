@@ -1,18 +1,6 @@
 use borrow.Author.Needs.{needs}
-use native.Mathlib.Omega.{arith}
-use native.Mathlib.Numerals.{add-one}
-use mathlib.Core.Path.{_≡_, refl, sym, ap, _∙_}
-use mathlib.Core.Bool.{Bool, true, false}
-use mathlib.Core.List.{List, [], _∷_, _++_}
-use Prim.Native.Nat.{ℕ, _+_, _*_, _≤_, _<_, _-_}
-use lib.ListN.{length, take, drop, getD, set}
 use Rattle.verdict.proofs.marks.Mark.with.Statement.{statement}
 use Rattle.verdict.proofs.marks.Mark.with.Tie as tie
-use Rattle.verdict.proofs.marks.Mark.with.Reads as reads
-use Rattle.verdict.proofs.marks.Mark.with.Lts as lts
-use Rattle.verdict.proofs.marks.common.Reads as common-reads
-use Rattle.verdict.proofs.marks.greater.Reads as greater-reads
-use Rattle.verdict.proofs.marks.lesser.Reads as lesser-reads
 
 greater-requires : tie.Need-greater-requires
 greater-requires c κs = search needs

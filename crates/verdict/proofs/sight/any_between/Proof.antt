@@ -1,19 +1,12 @@
 use borrow.Author.Needs.{needs}
 use native.Mathlib.Omega.{arith}
-use native.Mathlib.Numerals.{add-one}
-use mathlib.Core.Path.{_≡_, refl, sym, ap, _∙_}
-use mathlib.Core.Bool.{Bool, true, false}
-use mathlib.Core.List.{List, [], _∷_, _++_}
-use Prim.Native.Nat.{ℕ, _+_, _*_, _≤_, _<_, _-_}
-use lib.ListN.{length, take, drop, getD, set}
+use mathlib.Core.Path.{_≡_}
+use mathlib.Core.Bool.{false}
+use Prim.Native.Nat.{_-_}
 use Rattle.verdict.specs.Marks.{Clear}
-use Rattle.verdict.proofs.MarkLaws.{clear-none, clear-more}
-use Rattle.verdict.proofs.MarkLaws.{asked-fits}
-use Rattle.verdict.proofs.MarkLaws.{clear-part}
-use Rattle.verdict.proofs.marks.any_between.Statement.{statement}
-use Rattle.verdict.proofs.marks.any_between.Tie as tie
-use Rattle.verdict.proofs.marks.any_between.Reads as reads
-use Rattle.verdict.proofs.marks.any_between.Lts as lts
+use Rattle.verdict.proofs.MarkLaws.{clear-more, asked-fits, clear-part}
+use Rattle.verdict.proofs.sight.any_between.Statement.{statement}
+use Rattle.verdict.proofs.sight.any_between.Tie as tie
 
 abbrev Inv-loop : tie.InvT-loop
 Inv-loop early late q a b any₀ m₀ any m = any ≡ false → Clear early late q a m

@@ -1,15 +1,7 @@
 use borrow.Author.Needs.{needs}
-use native.Mathlib.Omega.{arith}
-use native.Mathlib.Numerals.{add-one}
-use mathlib.Core.Path.{_≡_, refl, sym, ap, _∙_}
-use mathlib.Core.Bool.{Bool, true, false}
-use mathlib.Core.List.{List, [], _∷_, _++_}
-use Prim.Native.Nat.{ℕ, _+_, _*_, _≤_, _<_, _-_}
-use lib.ListN.{length, take, drop, getD, set}
-use Rattle.verdict.proofs.marks.reach.Statement.{statement}
-use Rattle.verdict.proofs.marks.reach.Tie as tie
-use Rattle.verdict.proofs.marks.reach.Reads as reads
-use Rattle.verdict.proofs.marks.reach.Lts as lts
+use Prim.Native.Nat.{_-_}
+use Rattle.verdict.proofs.sight.reach.Statement.{statement}
+use Rattle.verdict.proofs.sight.reach.Tie as tie
 
 abbrev Inv-loop : tie.InvT-loop
 Inv-loop lows i time r₀ r = Unit {0}

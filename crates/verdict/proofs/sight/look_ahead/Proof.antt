@@ -1,19 +1,10 @@
 use borrow.Author.Needs.{needs}
 use native.Mathlib.Omega.{arith}
-use native.Mathlib.Numerals.{add-one}
-use mathlib.Core.Path.{_≡_, refl, sym, ap, _∙_}
-use mathlib.Core.Bool.{Bool, true, false}
-use mathlib.Core.List.{List, [], _∷_, _++_}
-use Prim.Native.Nat.{ℕ, _+_, _*_, _≤_, _<_, _-_}
-use lib.ListN.{length, take, drop, getD, set}
-use Rattle.verdict.proofs.MarkLaws.{clear-beyond, clear-join, far-by}
-use Rattle.verdict.proofs.marks.look_ahead.Statement.{statement}
-use Rattle.verdict.proofs.marks.look_ahead.Tie as tie
-use Rattle.verdict.proofs.marks.look_ahead.Reads as reads
-use Rattle.verdict.proofs.marks.look_ahead.Lts as lts
-use Rattle.verdict.proofs.marks.any_between.Reads as any-between-reads
-use Rattle.verdict.proofs.marks.mark_block.Reads as mark-block-reads
-use Rattle.verdict.proofs.marks.reach.Reads as reach-reads
+use mathlib.Core.Path.{refl}
+use Rattle.verdict.proofs.MarkLaws.{clear-join}
+use Rattle.verdict.proofs.SightLaws.{clear-beyond, far-by}
+use Rattle.verdict.proofs.sight.look_ahead.Statement.{statement}
+use Rattle.verdict.proofs.sight.look_ahead.Tie as tie
 
 mark-block-requires : tie.Need-mark-block-requires
 mark-block-requires c κs = search needs

@@ -1,18 +1,8 @@
 use borrow.Author.Needs.{needs}
 use native.Mathlib.Omega.{arith}
-use native.Mathlib.Numerals.{add-one}
-use mathlib.Core.Path.{_≡_, refl, sym, ap, _∙_}
-use mathlib.Core.Bool.{Bool, true, false}
-use mathlib.Core.List.{List, [], _∷_, _++_}
-use Prim.Native.Nat.{ℕ, _+_, _*_, _≤_, _<_, _-_}
-use lib.ListN.{length, take, drop, getD, set}
 use Rattle.verdict.proofs.MarkLaws.{apart, clear-part}
-use Rattle.verdict.proofs.marks.may_turn.Statement.{statement}
-use Rattle.verdict.proofs.marks.may_turn.Tie as tie
-use Rattle.verdict.proofs.marks.may_turn.Reads as reads
-use Rattle.verdict.proofs.marks.may_turn.Lts as lts
-use Rattle.verdict.proofs.marks.any_between.Reads as any-between-reads
-use Rattle.verdict.proofs.marks.mark_at.Reads as mark-at-reads
+use Rattle.verdict.proofs.sight.may_turn.Statement.{statement}
+use Rattle.verdict.proofs.sight.may_turn.Tie as tie
 
 element-copy-out-if1 : tie.Need-element-copy-out-if1
 element-copy-out-if1 c = search needs

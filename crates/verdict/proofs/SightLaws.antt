@@ -1,23 +1,39 @@
--- The search over k: what the numbers rule out needs no look at the steps.
+-- How far the steps of a block have to look, and that the search may go by it.
 use mathlib.Core.Path.{_≡_, refl, sym}
+use mathlib.Core.Logic.{dite}
 use mathlib.Core.Bool.{Bool, true, false}
 use mathlib.Core.List.{List}
-use Prim.Native.Nat.{ℕ, _+_, _/_, _≤_, _<_}
+use Prim.Native.Nat.{ℕ, _+_, _*_, _/_, _≤_, _<_}
 use native.Mathlib.Omega.{arith}
+use native.Mathlib.Decide.{decLt}
 use lib.ListN.{length, getD}
-use Rattle.model.specs.Table.{Transition}
 use Rattle.table.specs.Rows.{named}
 use Rattle.table.proofs.NamedLaws.{length-named}
 use Rattle.words.specs.Left.{Bounded}
-use Rattle.verdict.specs.declared.marks.Sight.{Sight}
-use Rattle.verdict.specs.declared.pairs.Partner.the-variants.{With, Alone}
+use Rattle.verdict.specs.declared.marks.Mark.{Mark}
+use Rattle.verdict.specs.declared.sight.Sight.{Sight}
+use Rattle.verdict.specs.declared.pairs.Partner.the-variants.{Alone}
 use Rattle.verdict.specs.Pairs.{PartnerOf}
 use Rattle.verdict.specs.Times.{Times}
 use Rattle.verdict.specs.Calm.{Seen}
-use Rattle.verdict.specs.Marks.{Clear, markAt, Far}
+use Rattle.verdict.specs.Marks.{Clear, markAt, Covers}
+use Rattle.verdict.specs.Sight.{Far}
 use Rattle.verdict.proofs.TimeLaws.{calm-alone, clear-alone}
-use Rattle.verdict.proofs.MarkLaws.{clear-join}
+use Rattle.verdict.proofs.MarkLaws.{clear-join, clear-under}
 use Rattle.verdict.proofs.PairLaws.{Passed, passed-none, passed-more}
+
+-- no number from block r on is low enough
+pub clear-beyond : {early late lows : List ℕ} {calm : List Bool} {q : Mark} {n r : ℕ} → Seen early n lows calm 0 → r ≤ 64
+    → (r < 64 → q .time ≤ getD lows r 0) → Clear early late q (8 * r) n
+clear-beyond {r = r} s w t = record {
+  none = λ m h l f. dite (decLt r 64) (λ i. omega (arith, f .before, t i, s .low r m (omega arith) h l)) (λ d. omega (arith, s .few));
+}
+
+-- a block looks as far as what its steps ask for together
+pub far-by : {early late : List ℕ} {calm : List Bool} {i n far : ℕ} {q : Mark}
+    → ((k : ℕ) → k / 8 ≡ i → getD calm k false ≡ false → Covers q (markAt early late k)) → far ≤ 512 → Clear early late q far n
+    → Far early late calm n (record { block = i; far = far })
+far-by v w c = record { within = w; clear = λ k h e d. clear-under (v k e d) c }
 
 -- the search stands at k, and looks as far as s says
 pub record Searching (c l early late lows : List ℕ) (calm : List Bool) (s : Sight) (k : ℕ) : Type 0 where

@@ -1,17 +1,7 @@
 use borrow.Author.Needs.{needs}
-use native.Mathlib.Omega.{arith}
-use native.Mathlib.Numerals.{add-one}
-use mathlib.Core.Path.{_≡_, refl, sym, ap, _∙_}
-use mathlib.Core.Bool.{Bool, true, false}
-use mathlib.Core.List.{List, [], _∷_, _++_}
-use Prim.Native.Nat.{ℕ, _+_, _*_, _≤_, _<_, _-_}
-use lib.ListN.{length, take, drop, getD, set}
 use Rattle.verdict.proofs.MarkLaws.{apart}
-use Rattle.verdict.proofs.marks.sight_at.Statement.{statement}
-use Rattle.verdict.proofs.marks.sight_at.Tie as tie
-use Rattle.verdict.proofs.marks.sight_at.Reads as reads
-use Rattle.verdict.proofs.marks.sight_at.Lts as lts
-use Rattle.verdict.proofs.marks.look_ahead.Reads as look-ahead-reads
+use Rattle.verdict.proofs.sight.sight_at.Statement.{statement}
+use Rattle.verdict.proofs.sight.sight_at.Tie as tie
 
 element-copy-out-if1 : tie.Need-element-copy-out-if1
 element-copy-out-if1 c = search needs
