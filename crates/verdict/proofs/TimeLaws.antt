@@ -88,7 +88,7 @@ module _ {c l early late : List ℕ} {u v j : ℕ} (f : Filling c l early late u
   }
 
 module _ {tr : List Transition} {early late : List ℕ} {n : ℕ} (t : Times tr early late (length tr)) (fine : All (InRange n) tr) where
-  -- the criterion of a pair in the numbers: the only place that compares letters there
+  -- what meets the criterion fits in the numbers: this law alone ties the low byte to letters that differ
   pub turning-fits : {k m : ℕ} → Criterion tr k m → Fits early late (markAt early late k) m
   turning-fits {k = k} {m = m} x =
       let i : k < length tr = omega (arith, x .ordered, x .inside) in

@@ -7,15 +7,15 @@ use Rattle.model.specs.Lists.{total}
 use Rattle.model.specs.Table.{Transition, at}
 use Rattle.model.specs.Shown.{lateGap}
 
--- step j's due time if every gap is as short as its guard allows, in ticks
+-- step j's due time if every gap were u, in ticks: every gap is more
 abbrev pub soonest : List Transition → ℕ → ℕ
 soonest tr j = total (λ t. t .u) (take (suc j) tr) + at tr j .d
 
--- if every gap is late, in 1/256 tick
+-- its due time if every gap is late, in 1/256 tick
 abbrev pub latest : List Transition → ℕ → ℕ
 latest tr j = total lateGap (take (suc j) tr) + at tr j .d * 256
 
--- of the first n steps; a step's letter stands below its soonest time, in one number
+-- both for the first n steps; a step's letter stands in the low byte of one number with its soonest time
 pub record Times (tr : List Transition) (early late : List ℕ) (n : ℕ) : Type 0 where
   pub early-size : length early ≡ 512
   pub late-size : length late ≡ 512

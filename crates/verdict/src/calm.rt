@@ -52,7 +52,7 @@ impl Soon {
     }
 }
 
-// The least number from each block of eight steps on, and the calm steps: no later one with another letter is due before them.
+// The least number from each block of eight steps on, and which steps are calm: no later one with another letter is due before them.
 pub(crate) fn look_back(early: &Numbers, n: usize, lows: &mut [u32; 64], calm: &mut [bool; 512])
     requires { ⌜ (n ≤ 512) × (length (now lows) ≡ 64) × (length (now calm) ≡ 512) ⌝ }
     ensures { λ _. ⌜ Seen (now (early .entry)) n (now (lows .exit)) (now (calm .exit)) 0 ⌝ }

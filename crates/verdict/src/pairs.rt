@@ -50,7 +50,7 @@ pub(crate) fn partner_of(cells: &Cells, trace: &[u16], k: usize) -> Partner
     Partner::Alone
 }
 
-// The least k that turns with a later step, and the least such step. The numbers only rule out.
+// The least k that turns with a later step, and the least such step. Steps that the numbers rule out are not looked at.
 fn pair_by_numbers(
     cells: &Cells,
     trace: &[u16],
@@ -81,7 +81,7 @@ fn pair_by_numbers(
     Pair::Nowhere
 }
 
-// Over numbers that are worked out first.
+// The same from the steps alone. Past the last step stands the greatest number, which no step asks for.
 pub(crate) fn least_pair(cells: &Cells, trace: &[u16]) -> Pair
     requires { ⌜ Bounded (now cells) (now trace) ⌝ }
     ensures { λ r. ⌜ PairOf (named (now (cells .entry)) (now (trace .entry))) r ⌝ }
