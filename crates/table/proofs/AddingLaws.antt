@@ -45,13 +45,15 @@ admit-full states at n met t h = rw (le-leb 256 n h)
 pub admit-few : (states at n : ℕ) (met : Bool) (t : Transition) → admitOf states at n met t ≡ Sound → n < 256
 admit-few states at n met t e =
     dite (decLt n 256) (λ h. h)
-    (λ h. let f : Sound ≡ Refused (Full at) = sym e ∙ sym (admit-full states at n met t (omega arith)) in let z : _≡_ {A = ℕ} 0 1 = cc in absurd (omega arith))
+    (λ h. let f : Sound ≡ Refused (Full at) = sym e ∙ sym (admit-full states at n met t (omega arith)) in
+    let z : _≡_ {A = ℕ} 0 1 = cc in absurd (omega arith))
 
 pub admit-says : (states at n : ℕ) (met : Bool) (t : Transition) → n < 256 → admitOf states at n met t ≡ Sound → (inRange states t ≡ true) × (met ≡ false)
 unfolding admitOf
 admit-says states at n met t h e = by (inRange states t) met refl (rw (lt-leb 256 n h) at e)
   where
-    by : (b m : Bool) → inRange states t ≡ b → cond b (cond m (Refused (Repeated at)) Sound) (Refused (OutOfRange at)) ≡ Sound → (inRange states t ≡ true) × (m ≡ false)
+    by : (b m : Bool) → inRange states t ≡ b → cond b (cond m (Refused (Repeated at)) Sound) (Refused (OutOfRange at)) ≡ Sound
+        → (inRange states t ≡ true) × (m ≡ false)
     by true false q e = (q, refl)
     by true true q e = let z : _≡_ {A = ℕ} 0 1 = cc in absurd (omega arith)
     by false m q e = let z : _≡_ {A = ℕ} 0 1 = cc in absurd (omega arith)

@@ -1,5 +1,5 @@
 -- What the places say of the transitions that were met.
-use mathlib.Core.Path.{_≡_, refl, sym, subst, subst⁻¹, _∙_}
+use mathlib.Core.Path.{_≡_, refl, sym, subst, _∙_}
 use mathlib.Core.Bool.{Bool, true, false, _&&_, _||_, cond}
 use mathlib.Core.Logic.{_⊎_, inl, inr, ⊎-elim, dite}
 use mathlib.Core.List.{List, [], _∷_, _++_}
@@ -93,7 +93,7 @@ module _ {seen : List ℕ} {ts : List Transition} (p : Marked seen ts) (t : Tran
   put-marked x w =
       record {
         size = length-set seen k x ∙ p .size;
-        each = λ s i. ⊎-elim (old s) (⊎-elim (λ q. subst⁻¹ (λ (y : Transition). Stands (set seen k x) (keyOf y)) q here) (λ z. absurd z)) (in-append s ts (t ∷ []) .0 i);
+        each = λ s i. ⊎-elim (old s) (⊎-elim (own s) (λ z. absurd z)) (in-append s ts (t ∷ []) .0 i);
       }
     where
       put : getD (set seen k x) k 0 ≡ x
@@ -101,6 +101,9 @@ module _ {seen : List ℕ} {ts : List Transition} (p : Marked seen ts) (t : Tran
 
       here : Stands (set seen k x) (keyOf t)
       here = ⊎-elim (λ y. inl (put ∙ y .0)) (λ y. inr (put ∙ y)) w
+
+      own : (s : Transition) → s ≡ t → Stands (set seen k x) (keyOf s)
+      own s q = rw q here
 
       full : (s : Transition) → In s ts → placeOf (keyOf s) ≡ k → getD seen k 0 ≡ 0 → ⊥
       full s i q z = ⊎-elim (λ a. omega arith) (λ a. omega arith) (rw (q, z) at (p .each s i))

@@ -1,7 +1,9 @@
 use borrow.Author.Needs.{needs}
-use mathlib.Core.Path.{sym, _∙_}
+use mathlib.Core.Path.{_≡_, sym, _∙_}
+use mathlib.Core.Bool.{true}
 use borrow.Author.Tests.{not-true, not-false}
 use Rattle.table.specs.Rows.{said}
+use Rattle.table.specs.Check.{inRange}
 use Rattle.table.proofs.AddingLaws.{added-full, added-range, added-twin, added-sound}
 use Rattle.table.proofs.add_row.Statement.{statement}
 use Rattle.table.proofs.add_row.Tie as tie
@@ -17,7 +19,12 @@ in-range-requires c κs = search needs
 returns-2 : tie.Need-returns-2
 returns-2 c =
     let a = c .before .before .before .args in
-    added-range (a .states) (a .at) (a .n) (said (a .r)) (a .cells .now) (a .seen .now) (c .before .before .if1 .left) (sym (c .before .in-range .ensures) ∙ not-true _ (c .if2 .taken))
+    added-range (a .states) (a .at) (a .n) (said (a .r)) (a .cells .now) (a .seen .now) (c .before .before .if1 .left)
+    (sym (c .before .in-range .ensures) ∙ not-true _ (c .if2 .taken))
+
+-- every number within its range
+ranged : (p : tie.Else2) → inRange (p .before .before .before .args .states) (said (p .before .before .before .args .r)) ≡ true
+ranged p = sym (p .before .in-range .ensures) ∙ not-false _ (p .if2 .left)
 
 key-requires : tie.Need-key-requires
 key-requires c κs = search needs
@@ -29,18 +36,21 @@ seen-before-requires c κs =
 
 returns-3 : tie.Need-returns-3
 returns-3 c =
-    let a = c .before .before .before .before .before .before .before .before .args in
-    added-twin (a .states) (a .at) (a .n) (said (a .r)) (a .cells .now) (a .seen .now) (c .before .before .before .before .before .before .before .if1 .left) (sym (c .before .before .before .before .before .before .in-range .ensures) ∙ not-false _ (c .before .before .before .before .before .if2 .left))
-    (c .before .seen-before .ensures .1) (sym (c .before .seen-before .ensures .0) ∙ c .if3 .taken)
+    let p = c .before .before .before .before .before in
+    let s = c .before .seen-before .ensures in
+    let a = p .before .before .before .args in
+    added-twin (a .states) (a .at) (a .n) (said (a .r)) (a .cells .now) (a .seen .now) (p .before .before .if1 .left) (ranged p) (s .1) (sym (s .0) ∙ c .if3 .taken)
 
 put-row-requires : tie.Need-put-row-requires
 put-row-requires c κs = search needs
 
 returns-4 : tie.Need-returns-4
 returns-4 c =
-    let a = c .before .before .before .before .before .before .before .before .before .before .args in
-    added-sound (a .states) (a .at) (a .n) (said (a .r)) (a .cells .now) (a .seen .now) (c .before .before .before .before .before .before .before .before .before .if1 .left) (sym (c .before .before .before .before .before .before .before .before .in-range .ensures) ∙ not-false _ (c .before .before .before .before .before .before .before .if2 .left))
-    (c .before .before .before .seen-before .ensures .1) (sym (c .before .before .before .seen-before .ensures .0) ∙ c .before .before .if3 .left) (c .put-row .ensures)
+    let p = c .before .before .before .before .before .before .before in
+    let s = c .before .before .before .seen-before .ensures in
+    let a = p .before .before .before .args in
+    added-sound (a .states) (a .at) (a .n) (said (a .r)) (a .cells .now) (a .seen .now) (p .before .before .if1 .left) (ranged p) (s .1)
+    (sym (s .0) ∙ c .before .before .if3 .left) (c .put-row .ensures)
 
 pub add-row-spec : {M : Type 1} → statement M
 add-row-spec =

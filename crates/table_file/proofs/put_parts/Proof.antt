@@ -26,10 +26,10 @@ put-head-requires c κs = search needs
 
 put-rows-requires : tie.Need-put-rows-requires
 put-rows-requires c κs =
-    let a = c .before .before .before .before .before .before .before .before .args in
-    let h = c .before .before .before .before .before .if2 .left in
-    let e = head-long (tableIn (a .states) (a .initial) (a .n) (a .cells .now)) (a .out .now) _ h (c .before .before .before .put-head .ensures) in
-    (c .before .before .before .before .before .before .if1 .left, omega arith)
+    let h = c .before .before .before .before .before in
+    let a = h .before .before .before .args in
+    let e = head-long (tableIn (a .states) (a .initial) (a .n) (a .cells .now)) (a .out .now) _ (h .if2 .left) (c .before .before .before .put-head .ensures) in
+    (h .before .if1 .left, omega arith)
 
 mul-put-end : tie.Need-mul-put-end
 mul-put-end c = search needs
@@ -45,9 +45,11 @@ same-length c = search needs
 
 returns-3 : tie.Need-returns-3
 returns-3 c =
-    let a = c .before .before .before .before .before .before .before .before .before .before .before .before .before .before .before .args in
-    put-done (tableIn (a .states) (a .initial) (a .n) (a .cells .now)) (a .out .now) (c .before .before .before .before .before .before .before .before .before .before .before .before .before .if1 .left) _ _ _ (c .before .before .before .before .before .before .before .before .before .before .before .before .if2 .left)
-    (c .before .before .before .before .before .before .before .before .before .before .put-head .ensures) (c .before .before .before .before .before .before .put-rows .ensures) (c .before .before .put-end .ensures)
+    let p = c .before .before .before .before .before .before in
+    let h = p .before .before .before .before .before .before in
+    let a = h .before .before .before .args in
+    put-done (tableIn (a .states) (a .initial) (a .n) (a .cells .now)) (a .out .now) (h .before .if1 .left) _ _ _ (h .if2 .left)
+    (p .before .before .before .before .put-head .ensures) (p .put-rows .ensures) (c .before .before .put-end .ensures)
 
 pub put-parts-spec : {M : Type 1} → statement M
 put-parts-spec =

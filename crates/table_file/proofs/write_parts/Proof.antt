@@ -22,7 +22,9 @@ same-length : tie.Need-same-length
 same-length c = search needs
 
 returns-2 : tie.Need-returns-2
-returns-2 c = write-put _ _ (c .before .before .before .before .before .before .check-parts .ensures) (c .before .before .before .before .enum-told .given .1) (c .before .before .put-parts .ensures)
+returns-2 c =
+    let e = c .before .before .before .before in
+    write-put _ _ (e .before .before .check-parts .ensures) (e .enum-told .given .1) (c .before .before .put-parts .ensures)
 
 pub write-parts-spec : {M : Type 1} → statement M
 write-parts-spec =

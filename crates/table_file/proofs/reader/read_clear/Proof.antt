@@ -1,6 +1,7 @@
 use borrow.Author.Needs.{needs}
-use mathlib.Core.Path.{refl, sym, _∙_}
-use Prim.Native.Nat.{_-_}
+use mathlib.Core.Path.{_≡_, sym, _∙_}
+use Rattle.table_file.specs.declared.Opening.the-variants.{Opened}
+use Rattle.table_file.specs.File.{headIn}
 use Rattle.table_file.proofs.FrameLaws.{opened-says}
 use Rattle.table_file.proofs.ReadLaws.{read-shut, read-stop, read-refused, read-table}
 use Rattle.table_file.proofs.reader.read_clear.Statement.{statement}
@@ -18,11 +19,14 @@ refused-requires c κs = search needs
 enum-known-h-2 : tie.Need-enum-known-h-2
 enum-known-h-2 c = search needs
 
+-- the head is one
+opened : (p : tie.After-h2) → headIn (p .before .before .before .before .args .file .now) ≡ Opened (p .h2 .given .0 .0) (p .h2 .given .0 .1 .0)
+opened p = sym (p .before .before .head .ensures) ∙ p .h2 .given .1
+
 read-rows-requires : tie.Need-read-rows-requires
 read-rows-requires c κs =
-    let e = sym (c .before .before .before .before .head .ensures) ∙ c .before .before .h2 .given .1 in
     let s = c .before .before .before .before .before .before in
-    (opened-says (s .args .file .now) _ _ e .long, s .pre)
+    (opened-says (s .args .file .now) _ _ (opened (c .before .before)) .long, s .pre)
 
 enum-known-c : tie.Need-enum-known-c
 enum-known-c c = search needs
@@ -40,14 +44,14 @@ returns c =
 
 returns-2 : tie.Need-returns-2
 returns-2 c =
-    let e = sym (c .before .before .before .before .before .before .before .before .before .before .head .ensures) ∙ c .before .before .before .before .before .before .before .before .h2 .given .1 in
-    let l = c .before .before .before .before .before .before .before .before .before .before .before .before .args .file .now in
-    read-refused l _ _ _ (read-stop l _ _ e _ _ (rw (c .before .before .before .c .given .1) at (c .before .before .before .before .before .read-rows .ensures))) (c .refused2 .ensures)
+    let r = c .before .before .before .before .before in
+    let l = r .before .before .before .before .before .before .before .args .file .now in
+    read-refused l _ _ _ (read-stop l _ _ (opened (r .before .before .before)) _ _ (rw (c .before .before .before .c .given .1) at (r .read-rows .ensures))) (c .refused2 .ensures)
 
 returns-3 : tie.Need-returns-3
 returns-3 c =
-    let e = sym (c .before .before .before .before .before .before .before .before .head .ensures) ∙ c .before .before .before .before .before .before .h2 .given .1 in
-    read-table (c .before .before .before .before .before .before .before .before .before .before .args .file .now) _ _ _ _ e (rw (c .before .c2 .given .1) at (c .before .before .before .read-rows .ensures))
+    let r = c .before .before .before in
+    read-table (r .before .before .before .before .before .before .before .args .file .now) _ _ _ _ (opened (r .before .before .before)) (rw (c .before .c2 .given .1) at (r .read-rows .ensures))
 
 pub read-clear-spec : {M : Type 1} → statement M
 read-clear-spec =
