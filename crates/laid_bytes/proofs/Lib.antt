@@ -1,3 +1,4 @@
 pub mod WholeLaws
+pub mod LiftLaws
 pub mod OnPlacesLaws
 pub mod OnlyLaws

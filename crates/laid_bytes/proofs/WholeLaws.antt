@@ -1,15 +1,16 @@
 -- The places of a byte buffer, once for every width w: what is read in one, and what a store in one leaves.
-use mathlib.Core.Path.{_≡_, sym, ap, _∙_}
+use mathlib.Core.Path.{_≡_, refl, sym, ap, _∙_}
 use mathlib.Core.Logic.{dite}
 use mathlib.Core.List.{List, [], _∷_, _++_, append-assoc, append-nil}
 use native.Mathlib.Decide.{decLt}
 use Prim.Native.Nat.{ℕ, zero, suc, _+_, _*_, _-_, _/_, _^_, _≤_, _<_}
-use native.Mathlib.Nat.{mul-le-mul-right, div-mul-le-self}
+use native.Mathlib.Nat.{mul-le-mul-right, div-mul-le-self, add-mul-div-right}
+use native.Mathlib.Numerals.{add-one}
 use native.Mathlib.Omega.{arith}
 use lib.ListN.{length, take, drop, getD, set, length-set, length-append, length-take, length-drop, take-append-drop}
-use lib.Seq.{ext-getD, length-take-le, take-at, drop-at, drop-drop, drop-length, getD-set-same, getD-set-other}
+use lib.Seq.{length-take-le, take-at, drop-at, drop-drop, drop-length, set-split}
 use Rattle.wire.specs.Bytes.{le, digits, bytes, placed, Bytes, les, wholes}
-use Rattle.wire.proofs.Bytes.{length-digits, length-bytes, bytes-append, le-take, le-drop, le-part, le-digits, les-front, placed-fits}
+use Rattle.wire.proofs.Bytes.{length-digits, length-bytes, bytes-append, le-take, le-drop, le-part, le-digits, les-front, length-les, placed-fits}
 use Rattle.places.proofs.PlaceLaws.{length-wholes}
 use Rattle.laid_bytes.specs.OnPlaces.{leftOver, Stored}
 
@@ -51,79 +52,111 @@ module _ (w : ℕ) where
       let e : q * w + 0 ≡ q * w = omega arith in
       (rw e at (le-part w b (q * w + w - q * w) (q * w) 0 (omega arith))) ∙ sym (whole-at b q h)
 
-  room : (b : List ℕ) (p : ℕ) → p < length b / w → p * w + w ≤ length b / w * w
-  room b p h = omega (arith, mul-le-mul-right w h)
+  les-two : (m n : ℕ) (l : List ℕ) (k : ℕ) → les w (m + n) l k ≡ les w m l k ++ les w n l (k + m * w)
+  les-two zero n l k =
+      let e : 0 + n ≡ n = omega arith in
+      let f : k + 0 * w ≡ k = omega arith in
+      rw (e, f)
+  les-two (suc m) n l k =
+      let e : suc m + n ≡ suc (m + n) = omega arith in
+      let f : k + suc m * w ≡ k + w + m * w = omega arith in
+      rw (e, f, les-two m n l (k + w))
 
-  -- what a store in place p leaves
-  module _ (b : List ℕ) (p x : ℕ) (h : p < length b / w) (f : x < 256 ^ w) (now : List ℕ)
-      (made : now ≡ take (p * w) b ++ (digits w x ++ drop (p * w + w) b)) where
-    own-room : p * w + w ≤ length b / w * w
-    own-room = room b p h
+  les-drop : (n : ℕ) (l : List ℕ) (k j i : ℕ) → i ≡ k + j → les w n (drop k l) j ≡ les w n l i
+  les-drop zero l k j i e = refl
+  les-drop (suc n) l k j i e = rw (le-drop w l k j i e, les-drop n l k (j + w) (i + w) (omega arith))
 
-    front : length (take (p * w) b) ≡ p * w
-    front = length-take (p * w) b ∙ omega (arith, own-room, div-mul-le-self (length b) w)
+  pub les-take : (n : ℕ) (l : List ℕ) (j k : ℕ) → k + n * w ≤ j → les w n (take j l) k ≡ les w n l k
+  les-take zero l j k h = refl
+  les-take (suc n) l j k h =
+      let e : suc n * w ≡ n * w + w = omega arith in
+      rw (le-take w l j k (omega arith), les-take n l j (k + w) (omega arith))
 
-    long : length now ≡ length b
-    long =
+  -- m whole places in front: they and the places after them are all, and what is left over is left over of the rest
+  module _ (some : 0 < w) (x y : List ℕ) (m : ℕ) (is : length x ≡ m * w) where
+    count : length (x ++ y) / w ≡ m + length y / w
+    count =
+        let e : length (x ++ y) ≡ length y + m * w = length-append x y ∙ omega (arith, is) in
+        rw e (add-mul-div-right (length y) m some ∙ omega arith)
+
+    wholes-append : wholes w (x ++ y) ≡ les w m x 0 ++ wholes w y
+    wholes-append =
+        let n : ℕ = length y / w in
+        let front : les w m (x ++ y) 0 ≡ les w m x 0 =
+        sym (les-take m (x ++ y) (m * w) 0 (omega arith)) ∙ rw (take-at x y (m * w) is) in
+        let back : les w n (x ++ y) (0 + m * w) ≡ les w n y 0 =
+        sym (les-drop n (x ++ y) (m * w) 0 (0 + m * w) (omega arith)) ∙ rw (drop-at x y (m * w) is) in
+        rw count (les-two m n (x ++ y) 0 ∙ rw (front, back))
+
+    rest-append : leftOver w (x ++ y) ≡ leftOver w y
+    rest-append =
+        let n : ℕ = length y / w in
+        let e : (m + n) * w ≡ m * w + n * w = omega arith in
+        rw (count, e) (sym (drop-drop (n * w) (m * w) (x ++ y)) ∙ ap (drop (n * w)) (drop-at x y (m * w) is))
+
+  -- a buffer cut behind k places
+  module _ (some : 0 < w) (b : List ℕ) (k : ℕ) (h : k ≤ length b / w) where
+    pub cut-fits : k * w ≤ length b
+    cut-fits = omega (arith, mul-le-mul-right w h, div-mul-le-self (length b) w)
+
+    cut : length (take (k * w) b) ≡ k * w
+    cut = length-take-le (k * w) b cut-fits
+
+    parts : wholes w b ≡ les w k b 0 ++ wholes w (drop (k * w) b)
+    parts =
+        rw (les-take k b (k * w) 0 (omega arith), take-append-drop (k * w) b)
+        at (wholes-append some (take (k * w) b) (drop (k * w) b) k cut)
+
+    pub front-places : les w k b 0 ≡ take k (wholes w b)
+    front-places = rw parts (sym (take-at (les w k b 0) (wholes w (drop (k * w) b)) k (length-les w k b 0)))
+
+    pub back-places : wholes w (drop (k * w) b) ≡ drop k (wholes w b)
+    back-places = rw parts (sym (drop-at (les w k b 0) (wholes w (drop (k * w) b)) k (length-les w k b 0)))
+
+    back-rest : leftOver w (drop (k * w) b) ≡ leftOver w b
+    back-rest = rw (take-append-drop (k * w) b) at (sym (rest-append some (take (k * w) b) (drop (k * w) b) k cut))
+
+  -- n places' bytes new after the first k: the places around them are as they were
+  module _ (some : 0 < w) (b : List ℕ) (k n : ℕ) (h : k + n ≤ length b / w) (new : List ℕ) (size : length new ≡ n * w) {now : List ℕ}
+      (made : now ≡ take (k * w) b ++ (new ++ drop ((k + n) * w) b)) where
+    pub made-places : wholes w now ≡ take k (wholes w b) ++ (les w n new 0 ++ drop (k + n) (wholes w b))
+    made-places =
+        let f : k ≤ length b / w = omega arith in
+        made-is ∙ rw (front-places some b k f, back-places some b (k + n) h)
+      where
+        made-is : wholes w now ≡ les w k b 0 ++ (les w n new 0 ++ wholes w (drop ((k + n) * w) b))
+        made-is =
+            rw (made, ← les-take k b (k * w) 0 (omega arith), ← wholes-append some new (drop ((k + n) * w) b) n size)
+            (wholes-append some (take (k * w) b) (new ++ drop ((k + n) * w) b) k (cut some b k (omega arith)))
+
+    pub made-rest : leftOver w now ≡ leftOver w b
+    made-rest =
         rw made
-        (simp (length-append, length-digits w x, length-drop) (omega (arith, front, own-room, div-mul-le-self (length b) w)))
-
-    same-left : take (p * w) now ≡ take (p * w) b
-    same-left = rw made (take-at (take (p * w) b) (digits w x ++ drop (p * w + w) b) (p * w) front)
-
-    from : drop (p * w) now ≡ digits w x ++ drop (p * w + w) b
-    from = rw made (drop-at (take (p * w) b) (digits w x ++ drop (p * w + w) b) (p * w) front)
-
-    same-right : drop (p * w + w) now ≡ drop (p * w + w) b
-    same-right = sym (drop-drop w (p * w) now) ∙ rw from (drop-at (digits w x) (drop (p * w + w) b) w (length-digits w x))
-
-    -- in that place the number, in every other what stood there
-    reads : (q : ℕ) → q < length b / w → le w now (q * w) ≡ getD (set (wholes w b) p x) q 0
-    reads q g =
-        let n = length-wholes w b in
-        let other : (q ≡ p → ⊥) → le w b (q * w) ≡ getD (set (wholes w b) p x) q 0 =
-        (λ z. sym (getD-set-other (wholes w b) p q x 0 z ∙ whole-at b q g)) in
-        dite (decLt q p)
-        (λ l.
-        let e : q * w + w ≤ p * w = omega (arith, mul-le-mul-right w l) in
-        sym (le-take w now (p * w) (q * w) e) ∙ rw same-left (le-take w b (p * w) (q * w) e) ∙ other (λ z. omega arith))
-        (λ k. dite (decLt p q)
-        (λ l.
-        let e : p * w + w ≤ q * w = omega (arith, mul-le-mul-right w l) in
-        let i : q * w ≡ p * w + w + (q * w - (p * w + w)) = omega arith in
-        sym (le-drop w now (p * w + w) (q * w - (p * w + w)) (q * w) i) ∙ rw same-right (le-drop w b (p * w + w) (q * w - (p * w + w)) (q * w) i)
-        ∙ other (λ z. omega arith))
-        (λ j.
-        let e : q ≡ p = omega arith in
-        rw e
-        (sym (le-drop w now (p * w) 0 (p * w) (omega arith)) ∙ rw from (le-digits w x (drop (p * w + w) b) f)
-        ∙ sym (getD-set-same (wholes w b) p x 0 (omega arith)))))
-
-    stored : Stored w b p x now
-    stored = record {
-      is = ext-getD 0 (wholes w now) (set (wholes w b) p x)
-          (length-wholes w now ∙ ap (λ (n : ℕ). n / w) long ∙ sym (length-set (wholes w b) p x ∙ length-wholes w b))
-          (λ q g.
-          let i : q < length now / w = omega (arith, length-wholes w now) in
-          whole-at now q i ∙ reads q (rw long at i));
-      rest =
-          let r : ℕ = length b / w * w - (p * w + w) in
-          let e : length b / w * w ≡ p * w + w + r = omega (arith, own-room) in
-          rw (long, e) (sym (drop-drop r (p * w + w) now) ∙ ap (drop r) same-right ∙ drop-drop r (p * w + w) b);
-    }
+        (rest-append some (take (k * w) b) (new ++ drop ((k + n) * w) b) k (cut some b k (omega arith))
+        ∙ rest-append some new (drop ((k + n) * w) b) n size
+        ∙ back-rest some b (k + n) h)
 
   -- the bytes of one place, lent out and written
-  pub part-stored : (b : List ℕ) (p x : ℕ) → p < length b / w → x < 256 ^ w → {new : List ℕ}
+  pub part-stored : (b : List ℕ) (p x : ℕ) → 0 < w → p < length b / w → x < 256 ^ w → {new : List ℕ}
       → new ≡ placed (take (p * w + w - p * w) (drop (p * w) b)) 0 (bytes w (x ∷ []))
       → Stored w b p x (take (p * w) b ++ (new ++ drop (p * w + w - p * w) (drop (p * w) b)))
   unfolding bytes
-  part-stored b p x h f {new} e =
+  part-stored b p x some h f {new} e =
       let z : p * w + w - p * w ≡ w = omega arith in
-      let fits : p * w + w ≤ length b = omega (arith, room b p h, div-mul-le-self (length b) w) in
+      let s : p * w + w ≡ (p + 1) * w = omega arith in
+      let fits : (p + 1) * w ≤ length b = cut-fits some b (p + 1) (omega arith) in
       let own : List ℕ = take w (drop (p * w) b) in
       let size : length own ≡ w = length-take w (drop (p * w) b) ∙ rw (length-drop (p * w) b) (omega arith) in
       let nil : digits w x ++ [] ≡ digits w x = append-nil (digits w x) in
       let all : 0 + length (digits w x) ≡ length own = omega (arith, length-digits w x) in
       let is : new ≡ digits w x =
       (rw (z, nil) at e) ∙ placed-fits own 0 (digits w x) (omega arith) ∙ rw (all, drop-length own) nil in
-      stored b p x h f _ (rw (z, is, drop-drop w (p * w) b))
+      let made : take (p * w) b ++ (new ++ drop (p * w + w - p * w) (drop (p * w) b)) ≡ take (p * w) b ++ (new ++ drop ((p + 1) * w) b) =
+      rw (z, drop-drop w (p * w) b, s) in
+      let long : length new ≡ 1 * w = rw is (length-digits w x ∙ omega arith) in
+      let one : le w new 0 ≡ x = rw (is, ← nil) (le-digits w x [] f) in
+      let n : p < length (wholes w b) = omega (arith, length-wholes w b) in
+      record {
+        is = made-places some b p 1 (omega arith) new long made ∙ rw (one, add-one p) (sym (set-split (wholes w b) p x n));
+        rest = made-rest some b p 1 (omega arith) new long made;
+      }
