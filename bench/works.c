@@ -27,16 +27,16 @@ static struct work *new_work(enum group group, enum call call, const char *name,
     return w;
 }
 
-/* A whole table that must be searched: the goal is a plain search. */
-static struct work *new_search(enum call call, const char *name, unsigned wanted)
+/* The judge on a table that must be searched: the goal is a plain search. */
+static struct work *new_search(const char *name, unsigned wanted)
 {
-    struct work *w = new_work(BY_CALL, call, name, wanted);
+    struct work *w = new_work(BY_CALL, JUDGE, name, wanted);
     w->against = PLAIN_SEARCH;
     w->goal = 1.0;
     return w;
 }
 
-/* The issue that set the goals names none for this one. */
+/* No goal was set for this one. */
 static struct work *without_goal(struct work *w)
 {
     w->goal = 0;
@@ -264,17 +264,17 @@ static struct work *new_night(enum group group, enum call call, const char *name
 static void make_tables(void)
 {
     struct work *w;
-    full_table(new_search(JUDGE, "judge: strict, 32 states, 256 transitions", SANDGUSSET_STRICT), 256, 240, 0, PAST_CORE);
-    full_table(new_search(JUDGE, "judge: turning, 32 states, 256 transitions", SANDGUSSET_TURNING), 256, 240, 1, PAST_CORE);
+    full_table(new_search("judge: strict, 32 states, 256 transitions", SANDGUSSET_STRICT), 256, 240, 0, PAST_CORE);
+    full_table(new_search("judge: turning, 32 states, 256 transitions", SANDGUSSET_TURNING), 256, 240, 1, PAST_CORE);
     full_table(w = without_goal(new_work(BY_CALL, JUDGE, "judge: strict, one letter, 256 transitions", SANDGUSSET_STRICT)), 256,
                240, 1, PAST_CORE);
     one_letter(w);
     everyday_table(new_work(BY_CALL, JUDGE, "judge: strict, everyday, 12 transitions", SANDGUSSET_STRICT), 0);
     everyday_table(new_work(BY_CALL, JUDGE, "judge: turning, everyday, 12 transitions", SANDGUSSET_TURNING), 1);
-    full_table(without_goal(new_search(ORDER, "order: in order, 32 states, 256 transitions", SANDGUSSET_IN_ORDER)), 256, 240, 0,
-               OUT_OF_REACH);
-    full_table(without_goal(new_search(ORDER, "order: overtaken, 32 states, 256 transitions", SANDGUSSET_OVERTAKEN)), 256, 240,
-               1, OUT_OF_REACH);
+    full_table(without_goal(new_work(BY_CALL, ORDER, "order: in order, 32 states, 256 transitions", SANDGUSSET_IN_ORDER)), 256, 240,
+               0, OUT_OF_REACH);
+    full_table(without_goal(new_work(BY_CALL, ORDER, "order: overtaken, 32 states, 256 transitions", SANDGUSSET_OVERTAKEN)), 256,
+               240, 1, OUT_OF_REACH);
     everyday_table(without_goal(new_work(BY_CALL, ORDER, "order: in order, everyday, 12 transitions", SANDGUSSET_IN_ORDER)), 0);
     everyday_table(without_goal(new_work(BY_CALL, ORDER, "order: overtaken, everyday, 12 transitions", SANDGUSSET_OVERTAKEN)), 1);
     full_table(new_work(BY_CALL, REWRITE, "rewrite: 256 transitions, 4,620 bytes", SANDGUSSET_WRITTEN), 256, 240, 0, PAST_CORE);
