@@ -3,7 +3,7 @@ use night::Words;
 use table::Cells;
 use table::Checked;
 use table::Refusal;
-use table::Table;
+use table_file::FileRead;
 ghost use mathlib.Core.Path.{_≡_};
 ghost use Prim.Native.Nat.{_*_, _/_, _≤_};
 ghost use lib.ListN.{length};
@@ -11,6 +11,7 @@ ghost use Rattle.model.specs.Table.{Valid};
 ghost use Rattle.table.specs.Refusal.{checkedFields};
 ghost use Rattle.table.specs.Rows.{machineOf};
 ghost use Rattle.table.specs.Tests.{Tested};
+ghost use Rattle.table_file.specs.File.{heldIn};
 ghost use Rattle.night.specs.Night.{wordsFields};
 ghost use Rattle.night_bytes.specs.NightBytes.{sizeTests, WordsOnMachine, WordsBytesOutcome};
 ghost use Rattle.night_bytes.specs.Runs.{Sized, Lent, WordWritten, WordsWritten};
@@ -116,7 +117,8 @@ fn play_all(
 
 // Decodes the trace, makes the tests, and plays.
 fn words_on(
-    t: Table,
+    read: FileRead,
+    cells: &Cells,
     trace: &[u8],
     starts: &[u8],
     stamps: &[u8],
@@ -124,20 +126,20 @@ fn words_on(
     due: &mut [u8],
     marks: &mut [u8],
 ) -> Words
-    requires { ⌜ Valid (machineOf t) ⌝ }
+    requires { ⌜ Valid (machineOf (heldIn read (now cells))) ⌝ }
     ensures { λ r. ⌜ WordsOnMachine
-        (machineOf t) (now (trace .entry)) (now (starts .entry)) (now (stamps .entry)) (now (order .entry)) (now (due .entry)) (now (marks .entry))
+        (machineOf (heldIn read (now (cells .entry)))) (now (trace .entry)) (now (starts .entry)) (now (stamps .entry)) (now (order .entry)) (now (due .entry)) (now (marks .entry))
         (wordsFields r) (now (order .exit)) (now (due .exit)) (now (marks .exit)) ⌝ }
 {
     let mut steps = [0u16; 512];
     let n = places::twos_in(trace, &mut steps);
-    if !trace::is_trace(&t.cells, t.count, &steps[..n]) {
+    if !trace::is_trace(cells, read.count, &steps[..n]) {
         return Words::Refused(Refusal::NoTrace);
     }
     if let Checked::Refused(r) = measured(n, starts, stamps, order, due, marks) {
         return Words::Refused(r);
     }
-    play_all(&t.cells, &steps[..n], starts, stamps, order, due, marks);
+    play_all(cells, &steps[..n], starts, stamps, order, due, marks);
     Words::Played(starts.len() / 4)
 }
 
@@ -156,10 +158,11 @@ pub fn replay_words_bytes(
         (now (order .entry)) (now (due .entry)) (now (marks .entry))
         (wordsFields r) (now (order .exit)) (now (due .exit)) (now (marks .exit)) ⌝ }
 {
-    let a = table_file::read_table(file);
-    let read = a.answer;
-    if let Checked::Refused(r) = read {
+    let mut cells = [0u16; 1792];
+    let read = table_file::read_into(file, &mut cells);
+    let answer = read.answer;
+    if let Checked::Refused(r) = answer {
         return Words::Refused(r);
     }
-    words_on(a.table, trace, starts, stamps, order, due, marks)
+    words_on(read, &cells, trace, starts, stamps, order, due, marks)
 }

@@ -1,3 +1,2 @@
-pub mod RewriteLaws
 pub mod ByteLaws
 pub mod OnlyLaws

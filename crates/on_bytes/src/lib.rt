@@ -1,6 +1,7 @@
 // The calls on byte buffers: the table as a file, transition and step numbers of two bytes, stamps and due times of four.
 use replay::Replayed;
 use table::Checked;
+use table::Refusal;
 use table_file::Written;
 ghost use Rattle.table_file.specs.Write.{writtenFields};
 ghost use Rattle.replay.specs.Play.{replayedFields};
@@ -13,14 +14,17 @@ mod replays;
 pub fn rewrite_bytes(file: &[u8], out: &mut [u8]) -> Written
     ensures { λ r. ⌜ RewriteBytesOutcome (now (file .entry)) (now (out .entry)) (writtenFields r) (now (out .exit)) ⌝ }
 {
-    let a = table_file::read_table(file);
-    let read = a.answer;
-    if let Checked::Refused(r) = read {
+    let a = table_file::check_file(file);
+    let answer = a.answer;
+    if let Checked::Refused(r) = answer {
         return Written::Refused(r);
     }
-    // What was read is valid: it is not tested again.
-    let t = a.table;
-    table_file::put_parts(t.states, t.initial, t.count, &t.cells, out)
+    if out.len() < file.len() {
+        return Written::Refused(Refusal::NoRoom);
+    }
+    // What a table that was read is written as is its file.
+    let n = bytes::copy(file, out);
+    Written::Bytes(n)
 }
 
 // Replay with the table as a file and every list in bytes.
@@ -36,10 +40,11 @@ pub fn replay_bytes(
         (now (file .entry)) (now (trace .entry)) start (now (stamps .entry)) (now (order .entry)) (now (due .entry))
         (replayedFields r) (now (order .exit)) (now (due .exit)) ⌝ }
 {
-    let a = table_file::read_table(file);
-    let read = a.answer;
-    if let Checked::Refused(r) = read {
+    let mut cells = [0u16; 1792];
+    let read = table_file::read_into(file, &mut cells);
+    let answer = read.answer;
+    if let Checked::Refused(r) = answer {
         return Replayed::Refused(r);
     }
-    replays::replay_on(a.table, trace, start, stamps, order, due)
+    replays::replay_on(read, &cells, trace, start, stamps, order, due)
 }

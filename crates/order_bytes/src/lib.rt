@@ -11,21 +11,13 @@ pub fn order_table_bytes(file: &[u8], trace: &mut [u8], stamps: &mut [u8]) -> On
     ensures { λ r. ⌜ OrderBytesOutcome (now (file .entry)) (now (trace .entry)) (now (stamps .entry)) (orderFields r)
         (now (trace .exit)) (now (stamps .exit)) ⌝ }
 {
-    let a = table_file::read_table(file);
-    let read = a.answer;
-    if let Checked::Refused(r) = read {
+    let mut cells = [0u16; 1792];
+    let read = table_file::read_into(file, &mut cells);
+    let answer = read.answer;
+    if let Checked::Refused(r) = answer {
         return OnOrder::Refused(r);
     }
     let mut steps = [0u16; 270];
     let mut marks = [0u32; 270];
-    orders::order_on(
-        a.table.states,
-        a.table.initial,
-        a.table.count,
-        &a.table.cells,
-        trace,
-        stamps,
-        &mut steps,
-        &mut marks,
-    )
+    orders::order_on(read, &cells, trace, stamps, &mut steps, &mut marks)
 }

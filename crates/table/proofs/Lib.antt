@@ -1,7 +1,6 @@
 pub mod RangeLaws
 pub mod RowLaws
 pub mod SeenLaws
-pub mod AddingLaws
 pub mod FitLaws
 pub mod NamedLaws
 pub mod RefusalLaws

@@ -1,11 +1,10 @@
 -- What the places say of the transitions that were met.
-use mathlib.Core.Path.{_≡_, refl, sym, subst, _∙_}
-use mathlib.Core.Bool.{Bool, true, false, _&&_, _||_, cond}
+use mathlib.Core.Path.{_≡_, refl, sym, _∙_}
+use mathlib.Core.Bool.{Bool, true, false, _||_, cond}
 use mathlib.Core.Logic.{_⊎_, inl, inr, ⊎-elim, dite}
 use mathlib.Core.List.{List, [], _∷_, _++_}
 use Prim.Native.Nat.{ℕ, _+_, _%_, _/_}
 use native.Mathlib.Decide.{ℕ-discrete}
-use native.Mathlib.Numerals.{add-one}
 use native.Mathlib.Omega.{arith}
 use borrow.Author.Tests.{eq-eqb, ne-eqb}
 use lib.Dec.{eqb}
@@ -14,77 +13,53 @@ use lib.Seq.{getD-set-same, getD-set-other}
 use Rattle.model.specs.Lists.{In}
 use Rattle.model.specs.Table.{Transition}
 use Rattle.model.proofs.Lists.{in-append}
-use Rattle.table.specs.declared.Row.{Row}
-use Rattle.table.specs.Rows.{rows, rowAt, said}
+use Rattle.table.specs.Rows.{listed}
 use Rattle.table.specs.Check.{has}
 use Rattle.table.specs.Seen.{keyOf, placeOf, markOf, markAt, Stands, suspect, noted, Marked}
-use Rattle.table.specs.Adding.{metIn}
-use Rattle.table.proofs.RangeLaws.{has-in, or-false, or-right}
+use Rattle.table.proofs.RowLaws.{listed-more}
+use Rattle.table.proofs.RangeLaws.{refuted, differ, has-in, or-false, or-right}
 
 -- what a place says of a key, and what is put there
 module _ (seen : List ℕ) (key : ℕ) where
-  suspect-other : (markAt seen key ≡ markOf key → ⊥) → (markAt seen key ≡ 255 → ⊥) → suspect seen key ≡ false
+  pub suspect-other : (markAt seen key ≡ markOf key → ⊥) → (markAt seen key ≡ 255 → ⊥) → suspect seen key ≡ false
   unfolding suspect
   suspect-other a b = or-false (eqb (markAt seen key) (markOf key)) _ (ne-eqb _ _ a) (ne-eqb _ _ b)
 
-  suspect-own : Stands seen key → suspect seen key ≡ true
+  pub suspect-own : Stands seen key → suspect seen key ≡ true
   unfolding suspect
   suspect-own (inl e) = rw (eq-eqb (markAt seen key) (markOf key) e)
   suspect-own (inr e) = or-right (eqb (markAt seen key) (markOf key)) _ (eq-eqb _ _ e)
 
-  first : markAt seen key ≡ 0 → set seen (placeOf key) (markOf key) ≡ noted seen key
-  unfolding noted
-  first e = rw (eq-eqb (markAt seen key) 0 e)
+  -- another's mark stands there, or none that tells
+  pub suspect-full : (markAt seen key ≡ markOf key → ⊥) → suspect seen key ≡ eqb (markAt seen key) 255
+  unfolding suspect
+  suspect-full n = rw (ne-eqb (markAt seen key) (markOf key) n)
 
-  again : (markAt seen key ≡ 0 → ⊥) → set seen (placeOf key) 255 ≡ noted seen key
+  pub noted-first : markAt seen key ≡ 0 → set seen (placeOf key) (markOf key) ≡ noted seen key
   unfolding noted
-  again n = rw (ne-eqb (markAt seen key) 0 n)
+  noted-first e = rw (eq-eqb (markAt seen key) 0 e)
+
+  pub noted-again : (markAt seen key ≡ 0 → ⊥) → set seen (placeOf key) 255 ≡ noted seen key
+  unfolding noted
+  noted-again n = rw (ne-eqb (markAt seen key) 0 n)
 
   -- the mark where nothing stood, else 255
   noted-is : (x : ℕ) × (noted seen key ≡ set seen (placeOf key) x) × (((x ≡ markOf key) × (markAt seen key ≡ 0)) ⊎ (x ≡ 255))
   noted-is =
       dite (ℕ-discrete (markAt seen key) 0)
-      (λ e. (markOf key, sym (first e), inl (refl, e)))
-      (λ n. (255, sym (again n), inr refl))
+      (λ e. (markOf key, sym (noted-first e), inl (refl, e)))
+      (λ n. (255, sym (noted-again n), inr refl))
 
--- t comes next, and key is its key
-module _ (seen : List ℕ) (t : Transition) (key : ℕ) (e : key ≡ keyOf t) where
-  module _ (c : List ℕ) (n : ℕ) where
-    pub met-not : (markAt seen key ≡ markOf key → ⊥) → (markAt seen key ≡ 255 → ⊥) → false ≡ metIn seen c n t
-    met-not a b = let q : suspect seen (keyOf t) ≡ false = suspect-other seen (keyOf t) (rw e at a) (rw e at b) in rw q
+-- a loop over transitions: before the first, and one more
+pub marked-start : (f : ℕ → Transition) (seen : List ℕ) → length seen ≡ 2048 → Marked seen (listed f 0)
+unfolding listed
+marked-start f seen e = record { size = e; each = λ t m. absurd m }
 
-    pub met-maybe : {b : Bool} → Stands seen key → b ≡ has t (rows c n) → b ≡ metIn seen c n t
-    met-maybe s h = let q : suspect seen (keyOf t) ≡ true = suspect-own seen (keyOf t) (rw e at s) in rw q h
-
-  pub noted-first : markAt seen key ≡ 0 → set seen (placeOf key) (markOf key) ≡ noted seen (keyOf t)
-  noted-first z = rw (← e) (first seen key z)
-
-  pub noted-again : (markAt seen key ≡ 0 → ⊥) → set seen (placeOf key) 255 ≡ noted seen (keyOf t)
-  noted-again z = rw (← e) (again seen key z)
-
--- a loop over the rows: before the first, and one more
-pub marked-start : (c seen : List ℕ) → length seen ≡ 2048 → Marked seen (rows c 0)
-unfolding rows
-marked-start c seen e = record { size = e; each = λ t m. absurd m }
-
-pub marked-row : (c : List ℕ) (i : ℕ) {seen : List ℕ} {r : Row} → r ≡ rowAt c i → Marked seen (rows c i ++ (said r ∷ [])) → Marked seen (rows c (i + 1))
-unfolding rows
-marked-row c i {seen} e m = rw (add-one i) (subst (λ (r : Row). Marked seen (rows c i ++ (said r ∷ []))) e m)
+pub marked-listed : (f : ℕ → Transition) (i : ℕ) {seen : List ℕ} {t : Transition} → t ≡ f i → Marked seen (listed f i ++ (t ∷ [])) → Marked seen (listed f (i + 1))
+marked-listed f i e m = rw (listed-more f i, ← e) m
 
 -- t comes next
 module _ {seen : List ℕ} {ts : List Transition} (p : Marked seen ts) (t : Transition) where
-  -- what the marks rule out was not met
-  pub marked-has : (suspect seen (keyOf t) && has t ts) ≡ has t ts
-  marked-has = by (has t ts) refl
-    where
-      by : (b : Bool) → has t ts ≡ b → (suspect seen (keyOf t) && b) ≡ b
-      by true h = let e : suspect seen (keyOf t) ≡ true = suspect-own seen (keyOf t) (p .each t (has-in t ts .0 h)) in rw e
-      by false h = none (suspect seen (keyOf t))
-        where
-          none : (b : Bool) → (b && false) ≡ false
-          none true = refl
-          none false = refl
-
   abbrev k : ℕ
   k = placeOf (keyOf t)
 
@@ -114,5 +89,16 @@ module _ {seen : List ℕ} {ts : List Transition} (p : Marked seen ts) (t : Tran
           (λ q. rw (q, put) (⊎-elim (λ y. absurd (full s i q (y .1))) (λ y. inr y) w))
           (λ n. rw (getD-set-other seen k (placeOf (keyOf s)) x 0 n) (p .each s i))
 
-  pub marked-noted : Marked (noted seen (keyOf t)) (ts ++ (t ∷ []))
+  marked-noted : Marked (noted seen (keyOf t)) (ts ++ (t ∷ []))
   marked-noted = let n = noted-is seen (keyOf t) in rw (n .1) (put-marked (n .0) (n .2))
+
+  -- by its key
+  module _ {key : ℕ} (e : key ≡ keyOf t) where
+    -- what the marks rule out was not met
+    pub marked-not : {b : Bool} → b ≡ suspect seen key → b ≡ false → has t ts ≡ false
+    marked-not s n =
+        let q : suspect seen (keyOf t) ≡ false = rw e at (sym s ∙ n) in
+        refuted (has t ts) (λ h. differ q (suspect-own seen (keyOf t) (p .each t (has-in t ts .0 h))))
+
+    pub marked-next : {seen' : List ℕ} → seen' ≡ noted seen key → Marked seen' (ts ++ (t ∷ []))
+    marked-next s = rw (s, e) marked-noted

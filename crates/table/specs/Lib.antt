@@ -3,6 +3,5 @@ pub mod Rows
 pub mod Fit
 pub mod Check
 pub mod Seen
-pub mod Adding
 pub mod Tests
 pub mod Showing

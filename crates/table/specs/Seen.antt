@@ -9,10 +9,13 @@ use lib.ListN.{length, getD, set}
 use Rattle.model.specs.Lists.{In}
 use Rattle.model.specs.Table.{Transition}
 
--- the seven numbers mixed
+-- four numbers mixed
+abbrev pub mixOf : ℕ → ℕ → ℕ → ℕ → ℕ
+mixOf a b c d = a * 332816339 + b * 510510511 + c * 479001599 + d * 2654435769
+
+-- the seven numbers of a transition mixed, as four: two bytes each, in the order of the file
 abbrev pub keyOf : Transition → ℕ
-keyOf t =
-    (t .from + t .input * 65536) * 332816339 + (t .output + t .to * 65536) * 510510511 + (t .u + t .v * 65536) * 479001599 + t .d * 2654435769
+keyOf t = mixOf (t .from + t .input * 65536) (t .output + t .to * 65536) (t .u + t .v * 65536) (t .d)
 
 -- the place of a key among 2,048, and its mark there
 abbrev pub placeOf : ℕ → ℕ

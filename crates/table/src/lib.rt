@@ -2,15 +2,14 @@
 ghost use mathlib.Core.Path.{_≡_};
 ghost use Rattle.model.specs.Answers.{Tells};
 ghost use Rattle.table.specs.Refusal.{refusalNumber, refusalPlace, checkedFields};
-ghost use Rattle.table.specs.Rows.{rowOf, said, tableIn, machineOf};
+ghost use Rattle.table.specs.Rows.{rowOf, tableIn, machineOf};
 ghost use Rattle.table.specs.Check.{headFine};
-ghost use Rattle.table.specs.Adding.{Added};
 ghost use Rattle.table.specs.Fit.{Sound};
 ghost use Rattle.table.specs.Tests.{CheckOutcome};
 
-mod ranges;
-mod rows;
-mod seen;
+pub mod ranges;
+pub mod rows;
+pub mod seen;
 
 // Document 01's refusals, each with the place that it names.
 pub enum Refusal {
@@ -131,30 +130,6 @@ pub fn in_limits(cells: &Cells, count: usize) -> bool
         return false;
     }
     ranges::all_in_range(cells, count, 32)
-}
-
-// A transition after n others: 3, 4, 5 at the place that comes with it, or it is stored. If its numbers are within their ranges, it is marked.
-pub fn add_row(
-    cells: &mut Cells,
-    seen: &mut Seen,
-    states: u16,
-    n: usize,
-    at: usize,
-    r: Row,
-) -> Checked
-    ensures { λ a. ⌜ Added states at n (said r) (now (cells .entry)) (now (seen .entry)) a (now (cells .exit)) (now (seen .exit)) ⌝ }
-{
-    if 256 <= n {
-        return Checked::Refused(Refusal::Full(at));
-    }
-    if !ranges::in_range(states, r) {
-        return Checked::Refused(Refusal::OutOfRange(at));
-    }
-    if seen::seen_before(cells, n, r, seen::key(r), seen) {
-        return Checked::Refused(Refusal::Repeated(at));
-    }
-    rows::put_row(cells, n, r);
-    Checked::Sound
 }
 
 // The check of a table that is lent in parts: 3, then 4, then 5, at place 0.

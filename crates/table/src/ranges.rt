@@ -1,9 +1,10 @@
 // Whether a table value is valid: ranges, then equal pairs.
 use crate::Cells;
 use crate::Row;
+use crate::rows::has_row;
 use crate::rows::row_at;
 use crate::seen::key;
-use crate::seen::seen_before;
+use crate::seen::mark;
 ghost use mathlib.Core.Path.{_≡_};
 ghost use Prim.Native.Nat.{_≤_};
 ghost use Rattle.model.specs.Answers.{Tells};
@@ -14,7 +15,7 @@ ghost use Rattle.table.specs.Check.{inRange};
 ghost use Rattle.model.specs.Table.{Unlike};
 
 // Every number of a transition within its range.
-pub(crate) fn in_range(states: u16, r: Row) -> bool
+pub fn in_range(states: u16, r: Row) -> bool
     ensures { λ b. ⌜ b ≡ inRange states (said r) ⌝ }
 {
     if states <= r.from {
@@ -71,8 +72,10 @@ pub(crate) fn all_unlike(cells: &Cells, n: usize) -> bool
     let mut i: usize = 0;
     while i < n {
         let r = row_at(cells, i);
-        if seen_before(cells, i, r, key(r), &mut seen) {
-            return false;
+        if mark(&mut seen, key(r)) {
+            if has_row(cells, i, r) {
+                return false;
+            }
         }
         i += 1;
     }

@@ -7,9 +7,12 @@ use native.Mathlib.Omega.{arith}
 use native.Mathlib.Decide.{decLt}
 use lib.ListN.{length, getD, take, drop, replicate, length-replicate, getD-replicate, List·getD-eq-default}
 use lib.Seq.{take-at, getD-append-add}
+use Rattle.model.specs.Lists.All.{all-nil}
 use Rattle.model.specs.Table.{Transition, Machine, Valid}
+use Rattle.wire.specs.Bytes.{Bytes as AllBytes}
 use Rattle.table.specs.declared.Table.{Table}
 use Rattle.table_file.specs.declared.Reading.{Reading}
+use Rattle.table_file.specs.declared.FileRead.{FileRead}
 use Rattle.table.specs.declared.Checked.{Checked}
 use Rattle.table.specs.declared.Checked.the-variants.{Sound}
 use Rattle.table_file.specs.declared.Written.{Written}
@@ -18,18 +21,61 @@ use Rattle.table.specs.Refusal.{checkedFields}
 use Rattle.table.specs.Rows.{numbers, said, rows, rowAt, flat, cellsOf, machineOf, tableOf}
 use Rattle.table.specs.Tests.{Test, unless, answers, afterTable, CheckOutcome}
 use Rattle.table_file.specs.Write.{writtenFields, writeTests, putTests, Writes, WritesAfter, WriteOutcome, PutOutcome}
-use Rattle.table_file.specs.File.{fileOf, ValidFile, Scan, machine, stopped, readFile, ReadOutcome}
+use Rattle.table_file.specs.File.{fileOf, ValidFile, Scan, machine, stopped, readFile, given, heldIn, ReadOutcome, FileOutcome, IntoOutcome}
 use Rattle.table.proofs.RefusalLaws.{checked-only}
 use Rattle.table_file.proofs.WrittenLaws.{written-only}
 use Rattle.table.proofs.RowLaws.{length-rows, at-rows}
-use Rattle.table.proofs.CellLaws.{machine-table, rows-cells, length-cells, length-flat}
+use Rattle.table.proofs.CellLaws.{machine-table, put-none, rows-put, put-clear, rows-cells, length-cells, length-flat}
 use Rattle.table.proofs.TestLaws.{answered-done, answered-only, tested-only, passes-valid, valid-passes}
-use Rattle.table_file.proofs.FileLaws.{complete, valid-read}
+use Rattle.table_file.proofs.FileLaws.{complete, sound, valid-read}
+
+-- the machine that the reader gives is valid, whatever the file: that of a refused file has one state and no transitions
+module _ (l : List ℕ) (b : AllBytes l) where
+  pub given-valid : Valid (given (readFile l))
+  given-valid = by (readFile l) refl
+    where
+      by : (s : Scan) → readFile l ≡ s → Valid (given s)
+      by (machine m) e = sound l m b e .0
+      by (stopped n p) e = record { some = omega arith; most = omega arith; starts = omega arith; few = omega arith; ranged = all-nil; distinct = λ i j h k. absurd (omega arith) }
+
+  module _ {a : FileRead} {c₀ c : List ℕ} (o : IntoOutcome (readFile l) c₀ a c) (long : length c₀ ≡ 1792) where
+    -- and stands in the cells that were lent
+    pub into-machine : machineOf (heldIn a c) ≡ given (readFile l)
+    into-machine =
+        let r : rows c (a .count) ≡ given (readFile l) .transitions =
+        rw (o .tells .counts, o .stores) (rows-put c₀ long (given (readFile l) .transitions) (given-valid .few)) in
+        rw (o .tells .states, o .tells .initial, r)
+
+    pub into-valid : Valid (machineOf (heldIn a c))
+    into-valid = rw into-machine given-valid
+
+  -- clear cells become those of its table
+  pub into-clear : {a : FileRead} {c : List ℕ} → IntoOutcome (readFile l) (replicate 1792 0) a c
+      → ReadOutcome (readFile l) (checkedFields (a .answer)) (heldIn a c)
+  into-clear o =
+      let e = o .stores ∙ put-clear (given (readFile l) .transitions) (given-valid .few) in
+      (o .tells .answers, rw (o .tells .states, o .tells .initial, o .tells .counts, e))
 
 -- the reader's answer and table are fixed by the file
 pub read-only : (s : Scan) (a b : Checked) (t u : Table) → ReadOutcome s (checkedFields a) t → ReadOutcome s (checkedFields b) u → (a ≡ b) × (t ≡ u)
-read-only (machine m) a b t u x y = (checked-only a b (x .0 ∙ sym (y .0)), x .1 ∙ sym (y .1))
-read-only (stopped n p) a b t u x y = (checked-only a b (x .0 ∙ sym (y .0)), x .1 ∙ sym (y .1))
+read-only s a b t u x y = (checked-only a b (x .0 ∙ sym (y .0)), x .1 ∙ sym (y .1))
+
+pub file-only : (s : Scan) (a b : FileRead) → FileOutcome s a → FileOutcome s b → a ≡ b
+file-only s a b x y =
+    let e : a .answer ≡ b .answer = checked-only (a .answer) (b .answer) (x .answers ∙ sym (y .answers)) in
+    let f : _≡_ {A = FileRead}
+    (record { answer = a .answer; states = a .states; initial = a .initial; count = a .count })
+    (record { answer = b .answer; states = b .states; initial = b .initial; count = b .count }) =
+    rw (e, x .states ∙ sym (y .states), x .initial ∙ sym (y .initial), x .counts ∙ sym (y .counts)) in
+    f
+
+-- and so is what it leaves in lent cells
+pub into-only : (s : Scan) (c₀ : List ℕ) (a b : FileRead) (c d : List ℕ) → IntoOutcome s c₀ a c → IntoOutcome s c₀ b d → (a ≡ b) × (c ≡ d)
+into-only s c₀ a b c d x y = (file-only s a b (x .tells) (y .tells), x .stores ∙ sym (y .stores))
+
+-- a refusal leaves them as they were
+pub into-kept : (n p : ℕ) (c₀ : List ℕ) (a : FileRead) (c : List ℕ) → IntoOutcome (stopped n p) c₀ a c → c ≡ c₀
+into-kept n p c₀ a c x = x .stores ∙ sym (put-none c₀)
 
 -- the writer's answer and the memory after it are fixed by the machine and the memory before, whatever it tests
 writes-only : (tests : List Test) (m : Machine) (out₀ : List ℕ) (a b : Written) (x y : List ℕ)

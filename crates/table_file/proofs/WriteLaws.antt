@@ -2,7 +2,6 @@
 use mathlib.Core.Path.{_≡_, refl, sym, ap, _∙_}
 use mathlib.Core.List.{List, [], _∷_, _++_, append-assoc}
 use Prim.Native.Nat.{ℕ, _+_, _*_, _≤_, _<_}
-use native.Mathlib.Numerals.{add-one}
 use native.Mathlib.Omega.{arith}
 use lib.ListN.{length, drop, length-append}
 use mathlib.Core.Logic.{inl, inr}
@@ -20,9 +19,9 @@ use Rattle.table_file.specs.Write.{writtenFields, roomTest, PutOutcome, 
 use Rattle.table.proofs.TestLaws.{fails-back, sound-valid, refused-fails, valid-fails, valid-passes}
 use Rattle.wire.specs.Bytes.{bytes, placed}
 use Rattle.wire.proofs.Bytes.{length-bytes, bytes-append, placed-none, placed-more, placed-fits, length-placed}
-use Rattle.table.specs.Rows.{rows, rowAt, said, flat, machineOf}
+use Rattle.table.specs.Rows.{listed, rows, rowAt, said, flat, machineOf}
 use Rattle.table_file.specs.File.{headNumbers, rowNumbers, endNumbers, fileOf}
-use Rattle.table.proofs.RowLaws.{length-rows}
+use Rattle.table.proofs.RowLaws.{length-rows, rows-more}
 use Rattle.table.proofs.CellLaws.{flat-more, length-flat}
 
 -- the bytes of the transitions' records
@@ -37,16 +36,15 @@ length-file m =
 
 module _ (cells out : List ℕ) where
   pub records-none : 8 ≤ length out → out ≡ placed out 8 (bytes 2 (flat rowNumbers (rows cells 0)))
-  unfolding rows flat bytes
+  unfolding rows listed flat bytes
   records-none h = sym (placed-none out 8 h)
 
   pub records-more : (i : ℕ) (o : List ℕ) → 8 + (i + 1) * 18 ≤ length out → o ≡ placed out 8 (bytes 2 (flat rowNumbers (rows cells i)))
       → placed o (8 + i * 18) (bytes 2 (rowNumbers (said (rowAt cells i)))) ≡ placed out 8 (bytes 2 (flat rowNumbers (rows cells (i + 1))))
-  unfolding rows
   records-more i o h e =
       let n : length (bytes 2 (flat rowNumbers (rows cells i))) ≡ i * 18 = length-records (rows cells i) ∙ ap (λ (x : ℕ). x * 18) (length-rows cells i) in
       let one : length (bytes 2 (rowNumbers (said (rowAt cells i)))) ≡ 18 = length-bytes 2 (rowNumbers (said (rowAt cells i))) in
-      rw (e, add-one i, flat-more rowNumbers (rows cells i) (said (rowAt cells i)), bytes-append 2 (flat rowNumbers (rows cells i)) (rowNumbers (said (rowAt cells i))))
+      rw (e, rows-more cells i, flat-more rowNumbers (rows cells i) (said (rowAt cells i)), bytes-append 2 (flat rowNumbers (rows cells i)) (rowNumbers (said (rowAt cells i))))
       (placed-more out 8 (8 + i * 18) (bytes 2 (flat rowNumbers (rows cells i))) (bytes 2 (rowNumbers (said (rowAt cells i)))) (omega arith) (omega arith))
 
   pub length-records-placed : (i : ℕ) → 8 + i * 18 ≤ length out → length (placed out 8 (bytes 2 (flat rowNumbers (rows cells i)))) ≡ length out

@@ -2,13 +2,13 @@
 use mathlib.Core.Path.{_≡_}
 use mathlib.Core.Bool.{Bool, _&&_, cond}
 use mathlib.Core.List.{List, [], _∷_, _++_}
-use Prim.Native.Nat.{ℕ, zero, suc, _+_, _≤_}
+use Prim.Native.Nat.{ℕ, zero, suc, _+_}
 use lib.Dec.{leb, ltb, eqb}
 use lib.ListN.{length, take, drop}
 use Rattle.model.specs.Answers.{Fields, fields}
 use Rattle.model.specs.Table.{Transition, Machine, Valid}
 use Rattle.wire.specs.Bytes.{le, bytes}
-use Rattle.table.specs.declared.Refusal.the-variants.{Cut, Misplaced, OutOfRange}
+use Rattle.table.specs.declared.Refusal.the-variants.{Cut, Misplaced, Full, OutOfRange, Repeated}
 use Rattle.table.specs.declared.Row.{Row}
 use Rattle.table.specs.declared.Table.{Table}
 use Rattle.table.specs.declared.Checked.the-variants.{Sound, Refused}
@@ -19,10 +19,10 @@ use Rattle.table_file.specs.declared.Opening.the-variants.{Opened, Shut}
 use Rattle.table_file.specs.declared.Counted.{Counted}
 use Rattle.table_file.specs.declared.Counted.the-variants.{Count, Stop}
 use Rattle.table.specs.declared.Checked.{Checked}
-use Rattle.table.specs.Refusal.{refusalNumber, refusalPlace}
-use Rattle.table.specs.Rows.{numbers, said, flat, rows, cellsOf, tableOf}
-use Rattle.table.specs.Check.{headFine, has}
-use Rattle.table.specs.Adding.{admission}
+use Rattle.table_file.specs.declared.FileRead.{FileRead}
+use Rattle.table.specs.Refusal.{refusalNumber, refusalPlace, checkedFields}
+use Rattle.table.specs.Rows.{numbers, said, listed, flat, putAll, tableIn, tableOf}
+use Rattle.table.specs.Check.{headFine, inRange, has}
 
 -- "two bytes of length (counting all after them), two bytes of kind, then the body": head, transition, end
 abbrev pub headNumbers : ℕ → ℕ → List ℕ
@@ -95,7 +95,11 @@ abbrev pub onChecked : Checked → Listed → Listed
 onChecked Sound next = next
 onChecked (Refused r) next = refused (refusalNumber r) (refusalPlace r)
 
--- 4, then 5, of a transition after others, then the next record
+-- 4, then 5, of a transition that was met before or not
+abbrev pub admission : ℕ → ℕ → Bool → Transition → Checked
+admission states offset met t = cond (inRange states t) (cond met (Refused (Repeated offset)) Sound) (Refused (OutOfRange offset))
+
+-- the same of a transition after others, then the next record
 abbrev pub admitted : ℕ → ℕ → List Transition → Transition → Listed → Listed
 admitted states offset ts t next = onChecked (admission states offset (has t ts) t) next
 
@@ -139,12 +143,32 @@ readFile l = withHead l (headIn l)
 abbrev pub bare : Machine
 bare = record { states = 1; initial = 0; transitions = [] }
 
--- what the reader answers, and the table that it returns
-abbrev pub ReadOutcome : Scan → Fields → Table → Type 0
-ReadOutcome (machine m) f t = (f ≡ fields 0 0 0 0) × (t ≡ tableOf m)
-ReadOutcome (stopped n p) f t = (f ≡ fields n p 0 0) × (t ≡ tableOf bare)
+-- what the reader answers: 0, or the number and the offset
+abbrev pub answerOf : Scan → Fields
+answerOf (machine m) = fields 0 0 0 0
+answerOf (stopped n p) = fields n p 0 0
 
--- what the loop over the records leaves: the count and the cells of what was found, or the refusal
-abbrev pub RowsOutcome : Listed → Counted → List ℕ → Type 0
-RowsOutcome f (Count n) cells = (f ≡ found (rows cells n)) × (cells ≡ cellsOf (rows cells n)) × (n ≤ 256)
-RowsOutcome f (Stop r) cells = f ≡ refused (refusalNumber r) (refusalPlace r)
+-- the machine that the reader gives
+abbrev pub given : Scan → Machine
+given (machine m) = m
+given (stopped n p) = bare
+
+-- with its table
+abbrev pub ReadOutcome : Scan → Fields → Table → Type 0
+ReadOutcome s f t = (f ≡ answerOf s) × (t ≡ tableOf (given s))
+
+-- a reading's numbers with cells
+abbrev pub heldIn : FileRead → List ℕ → Table
+heldIn r cells = tableIn (r .states) (r .initial) (r .count) cells
+
+-- with its numbers
+pub record FileOutcome (s : Scan) (r : FileRead) : Type 0 where
+  pub answers : checkedFields (r .answer) ≡ answerOf s
+  pub states : r .states ≡ given s .states
+  pub initial : r .initial ≡ given s .initial
+  pub counts : r .count ≡ length (given s .transitions)
+
+-- with its numbers, its transitions stored in lent cells, which stay as they were behind them: a refusal stores none
+pub record IntoOutcome (s : Scan) (cells₀ : List ℕ) (r : FileRead) (cells : List ℕ) : Type 0 where
+  pub tells : FileOutcome s r
+  pub stores : cells ≡ putAll cells₀ (given s .transitions)

@@ -7,7 +7,7 @@ use table::Table;
 use table::check_parts;
 ghost use Rattle.table.specs.Refusal.{checkedFields};
 ghost use Rattle.table.specs.Rows.{tableIn, machineOf};
-ghost use Rattle.table_file.specs.File.{ReadOutcome, readFile};
+ghost use Rattle.table_file.specs.File.{ReadOutcome, FileOutcome, IntoOutcome, readFile};
 ghost use Rattle.table_file.specs.Write.{writtenFields, WriteOutcome, PutOutcome};
 
 mod reader;
@@ -19,7 +19,7 @@ pub struct Reading {
 }
 
 // A reading without its cells.
-pub(crate) struct PartsRead {
+pub struct FileRead {
     pub answer: Checked,
     pub states: u16,
     pub initial: u16,
@@ -50,12 +50,32 @@ pub enum Written {
     Refused(Refusal),
 }
 
+// What a file is: its numbers, or the number and the offset of its first refusal with one state and no transitions.
+pub fn check_file(file: &[u8]) -> FileRead
+    ensures { λ r. ⌜ FileOutcome (readFile (now (file .entry))) r ⌝ }
+{
+    reader::scan(file)
+}
+
+// The same, and its transitions stored in lent cells. The whole file is tested first: a refusal stores nothing.
+pub fn read_into(file: &[u8], cells: &mut Cells) -> FileRead
+    ensures { λ r. ⌜ IntoOutcome (readFile (now (file .entry))) (now (cells .entry)) r (now (cells .exit)) ⌝ }
+{
+    let a = reader::scan(file);
+    let answer = a.answer;
+    if let Checked::Refused(_) = answer {
+        return a;
+    }
+    reader::take_rows(file, a.count, cells);
+    a
+}
+
 // The table of a file, or the number and the offset of its first refusal with the table of one state and no transitions.
 pub fn read_table(file: &[u8]) -> Reading
     ensures { λ r. ⌜ ReadOutcome (readFile (now (file .entry))) (checkedFields (r .answer)) (r .table) ⌝ }
 {
     let mut cells = [0u16; 1792];
-    let a = reader::read_clear(file, &mut cells);
+    let a = read_into(file, &mut cells);
     let answer = a.answer;
     Reading {
         answer,

@@ -1,28 +1,33 @@
 // The reader: record by record, in document 01's order of tests.
 use crate::Counted;
+use crate::FileRead;
 use crate::Frame;
 use crate::Opening;
-use crate::PartsRead;
 use table::Cells;
 use table::Checked;
 use table::Refusal;
 use table::Row;
-use table::add_row;
+use table::Seen;
 use table::head_fine;
+use table::ranges::in_range;
+use table::rows::put_row;
+use table::rows::same_row;
+use table::seen::mark;
+use table::seen::mixed;
 ghost use mathlib.Core.Path.{_≡_};
-ghost use mathlib.Core.List.{[]};
-ghost use Prim.Native.Nat.{_+_, _≤_};
+ghost use Prim.Native.Nat.{_+_, _*_, _≤_};
 ghost use lib.ListN.{length, drop};
-ghost use Rattle.table.specs.Refusal.{checkedFields};
-ghost use Rattle.table.specs.Rows.{rows, said, cellsOf, tableIn, tableOf};
-ghost use Rattle.table_file.specs.File.{rowIn, frameIn, openedIn, headIn, finishOf, bare, rowsFrom, RowsOutcome, ReadOutcome, readFile};
+ghost use Rattle.table.specs.Rows.{said, putAll};
+ghost use Rattle.table.specs.Check.{has};
+ghost use Rattle.table.specs.Seen.{keyOf};
+ghost use Rattle.table_file.specs.File.{rowIn, frameIn, openedIn, headIn, finishOf};
+ghost use Rattle.table_file.specs.Records.{recordAt, recorded, Next, Admitted, RowsOutcome, Scanned};
 
-// What a refused file gives: the table of one state and no transitions.
-fn refused(r: Refusal, cells: &mut Cells) -> PartsRead
-    ensures { λ a. ⌜ (a .answer ≡ Checked.Refused r) × (tableIn (a .states) (a .initial) (a .count) (now (cells .exit)) ≡ tableOf bare) ⌝ }
+// What a refused file gives: one state and no transitions.
+fn refused(r: Refusal) -> FileRead
+    ensures { λ a. ⌜ (a .answer ≡ Checked.Refused r) × (a .states ≡ 1) × (a .initial ≡ 0) × (a .count ≡ 0) ⌝ }
 {
-    *cells = [0u16; 1792];
-    PartsRead {
+    FileRead {
         answer: Checked::Refused(r),
         states: 1,
         initial: 0,
@@ -115,10 +120,67 @@ fn finish(file: &[u8], at: usize, n: usize) -> Counted
     Counted::Count(n)
 }
 
-// The transitions after the head, stored one by one.
-fn read_rows(file: &[u8], states: u16, cells: &mut Cells) -> Counted
-    requires { ⌜ (8 ≤ length (now file)) × (now cells ≡ cellsOf []) ⌝ }
-    ensures { λ r. ⌜ RowsOutcome (rowsFrom 256 states 8 (drop 8 (now (file .entry))) []) r (now (cells .exit)) ⌝ }
+// The transition in record i.
+fn record_at(file: &[u8], i: usize) -> Row
+    requires { ⌜ 8 + i * 18 + 18 ≤ length (now file) ⌝ }
+    ensures { λ r. ⌜ r ≡ recordAt (now (file .entry)) i ⌝ }
+{
+    let at = 8 + i * 18;
+    fields(&file[at + 4..at + 18])
+}
+
+// Whether a transition is in one of the first n records.
+fn has_record(file: &[u8], n: usize, t: Row) -> bool
+    requires { ⌜ 8 + n * 18 ≤ length (now file) ⌝ }
+    ensures { λ b. ⌜ b ≡ has (said t) (recorded (now (file .entry)) n) ⌝ }
+{
+    let mut i: usize = 0;
+    while i < n {
+        if same_row(record_at(file, i), t) {
+            return true;
+        }
+        i += 1;
+    }
+    false
+}
+
+// The key of the transition in record n, by few and wide reads.
+fn key_at(file: &[u8], n: usize) -> u64
+    requires { ⌜ 8 + n * 18 + 18 ≤ length (now file) ⌝ }
+    ensures { λ k. ⌜ k ≡ keyOf (said (recordAt (now (file .entry)) n)) ⌝ }
+{
+    let at = 8 + n * 18;
+    mixed(
+        wire::four(file, at + 4),
+        wire::four(file, at + 8),
+        wire::four(file, at + 12),
+        wire::two(file, at + 16),
+    )
+}
+
+// 3, 4, 5 of the transition in record n. Marks tell it from nearly all before it; what they leave open the file tells.
+fn admit(file: &[u8], seen: &mut Seen, states: u16, n: usize, at: usize, t: Row) -> Checked
+    requires { ⌜ Next (now file) (now seen) n t ⌝ }
+    ensures { λ a. ⌜ Admitted (now (file .entry)) states at n t a (now (seen .exit)) ⌝ }
+{
+    if 256 <= n {
+        return Checked::Refused(Refusal::Full(at));
+    }
+    if !in_range(states, t) {
+        return Checked::Refused(Refusal::OutOfRange(at));
+    }
+    if mark(seen, key_at(file, n)) {
+        if has_record(file, n, t) {
+            return Checked::Refused(Refusal::Repeated(at));
+        }
+    }
+    Checked::Sound
+}
+
+// The records after the head.
+fn check_rows(file: &[u8], states: u16) -> Counted
+    requires { ⌜ 8 ≤ length (now file) ⌝ }
+    ensures { λ r. ⌜ RowsOutcome states (now (file .entry)) r ⌝ }
 {
     let mut seen = [0u8; 2048];
     let mut at: usize = 8;
@@ -133,7 +195,7 @@ fn read_rows(file: &[u8], states: u16, cells: &mut Cells) -> Counted
                 return finish(file, at, n);
             }
             Frame::Took(t) => {
-                let a = add_row(cells, &mut seen, states, n, at, t);
+                let a = admit(file, &mut seen, states, n, at, t);
                 if let Checked::Refused(r) = a {
                     return Counted::Stop(r);
                 }
@@ -144,19 +206,18 @@ fn read_rows(file: &[u8], states: u16, cells: &mut Cells) -> Counted
     }
 }
 
-// The table of a file, into cells that are clear.
-pub(crate) fn read_clear(file: &[u8], cells: &mut Cells) -> PartsRead
-    requires { ⌜ now cells ≡ cellsOf [] ⌝ }
-    ensures { λ r. ⌜ ReadOutcome (readFile (now (file .entry))) (checkedFields (r .answer)) (tableIn (r .states) (r .initial) (r .count) (now (cells .exit))) ⌝ }
+// The whole file tested, nothing stored.
+pub(crate) fn scan(file: &[u8]) -> FileRead
+    ensures { λ r. ⌜ Scanned (now (file .entry)) r ⌝ }
 {
     let h = head(file);
     match h {
-        Opening::Shut(r) => refused(r, cells),
+        Opening::Shut(r) => refused(r),
         Opening::Opened(states, initial) => {
-            let c = read_rows(file, states, cells);
+            let c = check_rows(file, states);
             match c {
-                Counted::Stop(r) => refused(r, cells),
-                Counted::Count(count) => PartsRead {
+                Counted::Stop(r) => refused(r),
+                Counted::Count(count) => FileRead {
                     answer: Checked::Sound,
                     states,
                     initial,
@@ -164,5 +225,17 @@ pub(crate) fn read_clear(file: &[u8], cells: &mut Cells) -> PartsRead
                 },
             }
         }
+    }
+}
+
+// The transitions in the first n records, stored.
+pub(crate) fn take_rows(file: &[u8], n: usize, cells: &mut Cells)
+    requires { ⌜ (n ≤ 256) × (8 + n * 18 ≤ length (now file)) ⌝ }
+    ensures { λ _. ⌜ now (cells .exit) ≡ putAll (now (cells .entry)) (recorded (now (file .entry)) n) ⌝ }
+{
+    let mut i: usize = 0;
+    while i < n {
+        put_row(cells, i, record_at(file, i));
+        i += 1;
     }
 }

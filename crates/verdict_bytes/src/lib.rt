@@ -11,21 +11,13 @@ pub fn judge_table_bytes(file: &[u8], trace: &mut [u8], stamps: &mut [u8]) -> On
     ensures { λ r. ⌜ JudgeTableBytesOutcome (now (file .entry)) (now (trace .entry)) (now (stamps .entry)) (tableFields r)
         (now (trace .exit)) (now (stamps .exit)) ⌝ }
 {
-    let a = table_file::read_table(file);
-    let read = a.answer;
-    if let Checked::Refused(r) = read {
+    let mut cells = [0u16; 1792];
+    let read = table_file::read_into(file, &mut cells);
+    let answer = read.answer;
+    if let Checked::Refused(r) = answer {
         return OnTable::Refused(r);
     }
     let mut steps = [0u16; 270];
     let mut marks = [0u32; 540];
-    tables::judge_on(
-        a.table.states,
-        a.table.initial,
-        a.table.count,
-        &a.table.cells,
-        trace,
-        stamps,
-        &mut steps,
-        &mut marks,
-    )
+    tables::judge_on(read, &cells, trace, stamps, &mut steps, &mut marks)
 }

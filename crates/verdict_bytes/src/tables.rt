@@ -1,12 +1,14 @@
 // The verdict on a table that was read, shown in bytes. The table is lent in parts, for a table by value is copied.
 use table::Cells;
 use table::Refusal;
+use table_file::FileRead;
 use table_verdict::OnTable;
 ghost use mathlib.Core.Path.{_≡_};
 ghost use Prim.Native.Nat.{_≤_};
 ghost use lib.ListN.{length};
 ghost use Rattle.model.specs.Table.{Valid};
-ghost use Rattle.table.specs.Rows.{machineOf, tableIn};
+ghost use Rattle.table.specs.Rows.{machineOf};
+ghost use Rattle.table_file.specs.File.{heldIn};
 ghost use Rattle.table_verdict.specs.OnTable.{tableFields};
 ghost use Rattle.verdict_bytes.specs.Tables.{TableOnMachine, Used};
 
@@ -42,18 +44,16 @@ fn used(v: OnTable) -> Places
 
 // Tests the room, makes the call on values, and writes the used places back.
 pub(crate) fn judge_on(
-    states: u16,
-    initial: u16,
-    count: usize,
+    read: FileRead,
     cells: &Cells,
     trace: &mut [u8],
     stamps: &mut [u8],
     steps: &mut [u16],
     marks: &mut [u32],
 ) -> OnTable
-    requires { ⌜ Valid (machineOf (tableIn states initial count (now cells))) ⌝ }
+    requires { ⌜ Valid (machineOf (heldIn read (now cells))) ⌝ }
     requires { ⌜ (length (now steps) ≡ 270) × (length (now marks) ≡ 540) ⌝ }
-    ensures { λ r. ⌜ TableOnMachine (machineOf (tableIn states initial count (now (cells .entry)))) (now (trace .entry)) (now (stamps .entry))
+    ensures { λ r. ⌜ TableOnMachine (machineOf (heldIn read (now (cells .entry)))) (now (trace .entry)) (now (stamps .entry))
         (tableFields r) (now (trace .exit)) (now (stamps .exit)) ⌝ }
 {
     if trace.len() / 2 < 270 {
@@ -62,7 +62,7 @@ pub(crate) fn judge_on(
     if stamps.len() / 4 < 540 {
         return OnTable::Refused(Refusal::NoRoom);
     }
-    let r = table_verdict::judge_parts(states, initial, count, cells, steps, marks);
+    let r = table_verdict::judge_parts(read.states, read.initial, read.count, cells, steps, marks);
     let u = used(r);
     places::put_back_twos(trace, steps, u.steps);
     places::put_back_fours(stamps, marks, u.stamps);

@@ -3,6 +3,7 @@ use borrow.Author.Tests.{not-true, not-false}
 use native.Mathlib.Omega.{arith}
 use lib.ListN.{length-take}
 use Rattle.model.proofs.AnswerLaws.{told, untold}
+use Rattle.table_file.specs.File.{heldIn}
 use Rattle.night_bytes.proofs.NightByteLaws.{no-trace, most, no-size, fits, lends, all-written}
 use Rattle.night_bytes.proofs.words_on.Statement.{statement}
 use Rattle.night_bytes.proofs.words_on.Tie as tie
@@ -25,19 +26,19 @@ is-trace-requires c κs = search needs
 returns : tie.Need-returns
 returns c =
     let p = c .before in
-    let q = p .before .before .before .before .before in
+    let q = p .before .before .before in
     let s = q .before .before .before .before .before .before .before .before in
     let a = s .args in
-    no-trace (a .t1) (s .pre) (a .trace .now) (a .starts .now) (a .stamps .now) (a .order .now) (a .due .now) (a .marks .now) (q .twos-in .ensures) (search needs)
+    no-trace (heldIn (a .read) (a .cells .now)) (s .pre) (a .trace .now) (a .starts .now) (a .stamps .now) (a .order .now) (a .due .now) (a .marks .now) (q .twos-in .ensures) (search needs)
     (untold (p .is-trace .result) (p .is-trace .ensures) (not-true _ (c .if1 .taken)))
 
 measured-requires : tie.Need-measured-requires
 measured-requires c κs =
     let p = c .before .before .before .before in
-    let q = p .before .before .before .before .before in
+    let q = p .before .before .before in
     let s = q .before .before .before .before .before .before .before .before in
     let a = s .args in
-    most (a .t1) (s .pre) (a .trace .now) (a .starts .now) (a .stamps .now) (a .order .now) (a .due .now) (a .marks .now) (q .twos-in .ensures) (search needs)
+    most (heldIn (a .read) (a .cells .now)) (s .pre) (a .trace .now) (a .starts .now) (a .stamps .now) (a .order .now) (a .due .now) (a .marks .now) (q .twos-in .ensures) (search needs)
     (told (p .is-trace .result) (p .is-trace .ensures) (not-false _ (c .before .before .before .if1 .left)))
 
 enum-known-r : tie.Need-enum-known-r
@@ -55,10 +56,10 @@ same-length-3 c = search needs
 returns-2 : tie.Need-returns-2
 returns-2 c =
     let p = c .before .before .before .before .before .before .before .before in
-    let q = p .before .before .before .before .before in
+    let q = p .before .before .before in
     let s = q .before .before .before .before .before .before .before .before in
     let a = s .args in
-    no-size (a .t1) (s .pre) (a .trace .now) (a .starts .now) (a .stamps .now) (a .order .now) (a .due .now) (a .marks .now) (q .twos-in .ensures) (search needs)
+    no-size (heldIn (a .read) (a .cells .now)) (s .pre) (a .trace .now) (a .starts .now) (a .stamps .now) (a .order .now) (a .due .now) (a .marks .now) (q .twos-in .ensures) (search needs)
     (told (p .is-trace .result) (p .is-trace .ensures) (not-false _ (c .before .before .before .before .before .before .before .if1 .left))) (c .before .r .given .1) (c .before .before .before .measured .ensures)
 
 enum-told : tie.Need-enum-told
@@ -72,14 +73,14 @@ slice-aggregate-play-all c = simp length-take (omega arith)
 
 play-all-requires : tie.Need-play-all-requires
 play-all-requires c κs =
-    let p = c .before .before .before .before .before .before .before .before .before .before .before .before .before in
-    let q = p .before .before .before .before .before in
+    let p = c .before .before .before .before .before .before .before .before .before .before .before in
+    let q = p .before .before .before in
     let s = q .before .before .before .before .before .before .before .before in
     let a = s .args in
-    lends (a .t1) (s .pre) (a .trace .now) (a .starts .now) (a .stamps .now) (a .order .now) (a .due .now) (a .marks .now) (q .twos-in .ensures) (search needs)
-    (told (p .is-trace .result) (p .is-trace .ensures) (not-false _ (c .before .before .before .before .before .before .before .before .before .before .before .before .if1 .left)))
-    (fits (a .t1) (s .pre) (a .trace .now) (a .starts .now) (a .stamps .now) (a .order .now) (a .due .now) (a .marks .now) (q .twos-in .ensures) (search needs)
-    (told (p .is-trace .result) (p .is-trace .ensures) (not-false _ (c .before .before .before .before .before .before .before .before .before .before .before .before .if1 .left))) (c .before .before .before .before .before .before .enum-told .given .1) (c .before .before .before .before .before .before .before .before .measured .ensures))
+    lends (heldIn (a .read) (a .cells .now)) (s .pre) (a .trace .now) (a .starts .now) (a .stamps .now) (a .order .now) (a .due .now) (a .marks .now) (q .twos-in .ensures) (search needs)
+    (told (p .is-trace .result) (p .is-trace .ensures) (not-false _ (c .before .before .before .before .before .before .before .before .before .before .if1 .left)))
+    (fits (heldIn (a .read) (a .cells .now)) (s .pre) (a .trace .now) (a .starts .now) (a .stamps .now) (a .order .now) (a .due .now) (a .marks .now) (q .twos-in .ensures) (search needs)
+    (told (p .is-trace .result) (p .is-trace .ensures) (not-false _ (c .before .before .before .before .before .before .before .before .before .before .if1 .left))) (c .before .before .before .before .enum-told .given .1) (c .before .before .before .before .before .before .measured .ensures))
 
 same-length-4 : tie.Need-same-length-4
 same-length-4 c = search needs
@@ -92,14 +93,14 @@ same-length-6 c = search needs
 
 returns-3 : tie.Need-returns-3
 returns-3 c =
-    let p = c .before .before .before .before .before .before .before .before .before .before .before .before .before .before .before .before .before .before .before .before in
-    let q = p .before .before .before .before .before in
+    let p = c .before .before .before .before .before .before .before .before .before .before .before .before .before .before .before .before .before .before in
+    let q = p .before .before .before in
     let s = q .before .before .before .before .before .before .before .before in
     let a = s .args in
-    all-written (a .t1) (s .pre) (a .trace .now) (a .starts .now) (a .stamps .now) (a .order .now) (a .due .now) (a .marks .now) (q .twos-in .ensures) (search needs)
-    (told (p .is-trace .result) (p .is-trace .ensures) (not-false _ (c .before .before .before .before .before .before .before .before .before .before .before .before .before .before .before .before .before .before .before .if1 .left)))
-    (fits (a .t1) (s .pre) (a .trace .now) (a .starts .now) (a .stamps .now) (a .order .now) (a .due .now) (a .marks .now) (q .twos-in .ensures) (search needs)
-    (told (p .is-trace .result) (p .is-trace .ensures) (not-false _ (c .before .before .before .before .before .before .before .before .before .before .before .before .before .before .before .before .before .before .before .if1 .left))) (c .before .before .before .before .before .before .before .before .before .before .before .before .before .enum-told .given .1) (c .before .before .before .before .before .before .before .before .before .before .before .before .before .before .before .measured .ensures))
+    all-written (heldIn (a .read) (a .cells .now)) (s .pre) (a .trace .now) (a .starts .now) (a .stamps .now) (a .order .now) (a .due .now) (a .marks .now) (q .twos-in .ensures) (search needs)
+    (told (p .is-trace .result) (p .is-trace .ensures) (not-false _ (c .before .before .before .before .before .before .before .before .before .before .before .before .before .before .before .before .before .if1 .left)))
+    (fits (heldIn (a .read) (a .cells .now)) (s .pre) (a .trace .now) (a .starts .now) (a .stamps .now) (a .order .now) (a .due .now) (a .marks .now) (q .twos-in .ensures) (search needs)
+    (told (p .is-trace .result) (p .is-trace .ensures) (not-false _ (c .before .before .before .before .before .before .before .before .before .before .before .before .before .before .before .before .before .if1 .left))) (c .before .before .before .before .before .before .before .before .before .before .before .enum-told .given .1) (c .before .before .before .before .before .before .before .before .before .before .before .before .before .measured .ensures))
     (λ i. q .before .before .before .before .slice-known .given i .fits) (λ i. q .before .before .before .slice-known2 .given i .fits)
     (λ i. c .before .before .before .before .slice-known4 .given i .fits) (λ i. c .before .before .slice-known5 .given i .fits)
     (c .before .before .before .before .before .before .play-all .ensures)

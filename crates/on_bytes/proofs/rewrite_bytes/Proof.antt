@@ -1,45 +1,42 @@
+-- What is not named follows from what is known around it.
 use borrow.Author.Needs.{needs}
-use mathlib.Core.Path.{refl}
-use Rattle.places.proofs.ReadingLaws.{refused-stopped, sound-read}
-use Rattle.on_bytes.proofs.RewriteLaws.{rewritten}
+use mathlib.Core.Path.{refl, ap, _∙_}
+use mathlib.Core.Logic.{inl}
+use mathlib.Core.List.{_++_}
+use native.Mathlib.Omega.{arith}
+use lib.ListN.{length, drop}
+use lib.Seq.{take-length}
+use Rattle.table.specs.Tests.{refuses, answers}
+use Rattle.places.proofs.ReadingLaws.{told-stopped, told-machine}
 use Rattle.on_bytes.proofs.rewrite_bytes.Statement.{statement}
 use Rattle.on_bytes.proofs.rewrite_bytes.Tie as tie
 
-read-table-requires : tie.Need-read-table-requires
-read-table-requires c κs = search needs
-
-enum-known-read : tie.Need-enum-known-read
-enum-known-read c = search needs
-
 returns : tie.Need-returns
-returns c =
-    rw (refused-stopped _ _ (c .before .before .before .read-table .ensures) _ (c .before .read .given .1)) (refl, refl)
-
-enum-told : tie.Need-enum-told
-enum-told c = search needs
-
-put-parts-requires : tie.Need-put-parts-requires
-put-parts-requires c κs = search needs
-
-same-length : tie.Need-same-length
-same-length c = search needs
+returns c = rw (told-stopped _ (c .before .before .before .check-file .ensures .answers) (c .before .answer .given .1)) (refl, refl)
 
 returns-2 : tie.Need-returns-2
 returns-2 c =
-    let e = c .before .before .before .before .before .before .before in
-    let p = e .before .before in
-    let k = p .before .before in
-    let read = sound-read _ _ (p .read-table .ensures) (e .enum-told .given .1) in
-    rw read (rewritten _ _ read (λ i. k .shared-slice-known .given i .fits) _ _ _ (c .before .before .put-parts .ensures))
+    rw (told-machine _ (c .before .before .before .check-file .ensures .answers) (c .before .enum-told .given .1))
+    (refuses refl (inl ((λ h. omega (arith, c .if1 .taken)), refl, refl)) refl)
+
+returns-3 : tie.Need-returns-3
+returns-3 c =
+    let e = c .before .before .before .before .before in
+    let a = e .before .before .before .before .before .args in
+    let f = a .file .now in
+    let d = c .before .before .copy .ensures in
+    rw (told-machine _ (e .before .before .check-file .ensures .answers) (e .enum-told .given .1))
+    (answers (omega (arith, c .before .before .before .before .if1 .left), tt) (rw (d .0), d .1 ∙ ap (λ l. l ++ drop (length f) (a .out .now)) (take-length f)))
 
 pub rewrite-bytes-spec : {M : Type 1} → statement M
 rewrite-bytes-spec =
     tie.close
     (tie.spec
-    read-table-requires
-    enum-known-read
+    (λ c κs. search needs)
+    (λ c. search needs)
     returns
-    enum-told
-    put-parts-requires
-    same-length
-    returns-2)
+    (λ c. search needs)
+    returns-2
+    (λ c κs. search needs)
+    (λ c. search needs)
+    returns-3)

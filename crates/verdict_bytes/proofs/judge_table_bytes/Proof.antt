@@ -1,25 +1,25 @@
 -- What is not named follows from the arithmetic around it.
 use borrow.Author.Needs.{needs}
 use mathlib.Core.Path.{refl}
-use Rattle.places.proofs.ReadingLaws.{refused-stopped, sound-read, read-valid}
+use Rattle.table_file.proofs.OutcomeLaws.{into-valid}
+use Rattle.places.proofs.ReadingLaws.{into-stopped, into-read}
 use Rattle.verdict_bytes.proofs.judge_table_bytes.Statement.{statement}
 use Rattle.verdict_bytes.proofs.judge_table_bytes.Tie as tie
 
 returns : tie.Need-returns
-returns c =
-    rw (refused-stopped _ _ (c .before .before .before .read-table .ensures) _ (c .before .read .given .1)) (refl, refl, refl)
+returns c = rw (into-stopped _ (c .before .before .before .read-into .ensures) (c .before .answer .given .1)) (refl, refl, refl)
 
 judge-on-requires : tie.Need-judge-on-requires
 judge-on-requires c κs =
-    let e = c .before .before .before .before .before .before in
-    let p = e .before .before in
-    (read-valid _ _ (p .read-table .ensures) (e .enum-told .given .1) (λ i. p .before .before .before .shared-slice-known .given i .fits), search needs)
+    let r = c .before .before .before .before .before .before .before in
+    (into-valid _ (λ i. r .before .before .before .before .shared-slice-known .given i .fits) (r .read-into .ensures) refl, search needs)
 
 returns-2 : tie.Need-returns-2
 returns-2 c =
-    let j = c .before .before .before .before .before .before in
-    let e = j .before .before .before .before .before .before .before in
-    rw (sound-read _ _ (e .before .before .read-table .ensures) (e .enum-told .given .1)) (j .judge-on .ensures)
+    let p = c .before .before .before .before .before .before in
+    let e = p .before .before .before .before .before .before in
+    let r = e .before .before in
+    rw (into-read _ (r .read-into .ensures) (λ i. r .before .before .before .before .shared-slice-known .given i .fits) refl (e .enum-told .given .1)) (p .judge-on .ensures)
 
 pub judge-table-bytes-spec : {M : Type 1} → statement M
 judge-table-bytes-spec =

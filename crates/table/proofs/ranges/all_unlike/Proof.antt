@@ -1,13 +1,15 @@
 use borrow.Author.Needs.{needs}
 use native.Mathlib.Omega.{arith}
-use mathlib.Core.Path.{_≡_, refl, sym, _∙_}
+use mathlib.Core.Path.{_≡_, refl, sym, ap, _∙_}
+use mathlib.Core.Bool.{true, false}
+use mathlib.Core.Logic.{⊎-elim}
 use Prim.Native.Nat.{_≤_, _-_}
 use Rattle.table.specs.Rows.{rowAt, rows, said}
 use Rattle.table.specs.Check.{has}
 use Rattle.table.specs.Seen.{Marked}
 use Rattle.model.specs.Table.{Unlike}
 use Rattle.table.proofs.RowLaws.{unlike-none, unlike-next, unlike-stop}
-use Rattle.table.proofs.SeenLaws.{marked-start, marked-has, marked-noted, marked-row}
+use Rattle.table.proofs.SeenLaws.{marked-start, marked-listed, marked-not, marked-next}
 use Rattle.table.proofs.ranges.all_unlike.Statement.{statement}
 use Rattle.table.proofs.ranges.all_unlike.Tie as tie
 
@@ -18,7 +20,8 @@ abbrev μ-loop : tie.MeasureT-loop
 μ-loop cells n seen₀ i₀ seen i = n - i
 
 loop-holds : tie.Need-loop-holds Inv-loop μ-loop
-loop-holds c = (omega arith, unlike-none _, marked-start _ _ refl)
+unfolding rows
+loop-holds c = let l = c .args .cells .now in (omega arith, unlike-none l, marked-start (λ i. said (rowAt l i)) _ refl)
 
 row-at-requires : tie.Need-row-at-requires Inv-loop μ-loop
 row-at-requires c κs = search needs
@@ -26,19 +29,16 @@ row-at-requires c κs = search needs
 key-requires : tie.Need-key-requires Inv-loop μ-loop
 key-requires c κs = search needs
 
-seen-before-requires : tie.Need-seen-before-requires Inv-loop μ-loop
-seen-before-requires c κs = (omega arith, c .before .key .ensures)
+mark-requires : tie.Need-mark-requires Inv-loop μ-loop
+mark-requires c κs = search needs
 
--- the test of transition i
-after-seen-before : (p : tie.After-seen-before Inv-loop μ-loop)
-    → let a = p .before .before .before .before .before .before .args in
-    let i = p .before .before .before .before .before .loop .i in
-    p .seen-before .result ≡ has (said (rowAt (a .cells .now) i)) (rows (a .cells .now) i)
-after-seen-before p =
-    rw (p .before .before .before .row-at .ensures) at (p .seen-before .ensures .0 ∙ marked-has (p .before .before .before .before .before .loop .inv .2) _)
+has-row-requires : tie.Need-has-row-requires Inv-loop μ-loop
+has-row-requires c κs = search needs
 
 returns : tie.Need-returns Inv-loop μ-loop
-returns c = unlike-stop _ _ _ (omega arith) (sym (after-seen-before (c .before)) ∙ c .if1 .taken)
+returns c =
+    let r : has (said (c .before .before .before .before .before .before .row-at .result)) _ ≡ true = sym (c .before .has-row .ensures) ∙ c .if2 .taken in
+    unlike-stop _ _ _ (omega arith) (rw (c .before .before .before .before .before .before .row-at .ensures) at r)
 
 add-i : tie.Need-add-i Inv-loop μ-loop
 add-i c = search needs
@@ -47,11 +47,19 @@ loop-less : tie.Need-loop-less Inv-loop μ-loop
 loop-less c = search needs
 
 loop-again : tie.Need-loop-again Inv-loop μ-loop
+unfolding rows
 loop-again c =
-    let l = c .before .before .before .before .before .before .loop in (
+    let s = c .before .before .before .before .before .before in
+    let l = s .loop in
+    let a = s .before .args in
+    let r = c .before .before .before .before .row-at in
+    let t = said (r .result) in
+    let k = c .before .before .key .ensures in
+    let new : has t (rows (a .cells .now) (l .i)) ≡ false =
+    ⊎-elim (λ w. sym (w .1 .ensures) ∙ w .2 .left) (λ w. marked-not (l .inv .2) t k (c .before .mark .ensures .0) (w .left)) (c .if1 .came) in (
       omega arith,
-      unlike-next _ _ (l .inv .1) (sym (after-seen-before (c .before)) ∙ c .if1 .left),
-      marked-row _ (l .i) (c .before .before .before .before .row-at .ensures) (rw (c .before .seen-before .ensures .1) (marked-noted (l .inv .2) _)),
+      unlike-next (a .cells .now) (l .i) (l .inv .1) (rw (r .ensures) at new),
+      marked-listed (λ i. said (rowAt (a .cells .now) i)) (l .i) (ap said (r .ensures)) (marked-next (l .inv .2) t k (c .before .mark .ensures .1)),
     )
 
 returns-2 : tie.Need-returns-2 Inv-loop μ-loop
@@ -68,7 +76,8 @@ all-unlike-spec =
     loop-holds
     row-at-requires
     key-requires
-    seen-before-requires
+    mark-requires
+    has-row-requires
     returns
     add-i
     loop-less

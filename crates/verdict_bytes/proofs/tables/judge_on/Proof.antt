@@ -3,7 +3,8 @@ use borrow.Author.Needs.{needs}
 use mathlib.Core.Path.{refl}
 use mathlib.Core.Logic.{inl}
 use native.Mathlib.Omega.{arith}
-use Rattle.table.specs.Rows.{machineOf, tableIn}
+use Rattle.table.specs.Rows.{machineOf}
+use Rattle.table_file.specs.File.{heldIn}
 use Rattle.table.specs.Tests.{refuses}
 use Rattle.verdict_bytes.proofs.TableLaws.{steps-few, on-bytes}
 use Rattle.verdict_bytes.proofs.tables.judge_on.Statement.{statement}
@@ -20,7 +21,7 @@ used-requires c κs =
     let p = c .before .before .before .before in
     let s = p .before .before .before .before .before .before .before .before .before in
     let a = s .args in
-    let m = machineOf (tableIn (a .states) (a .initial) (a .count) (a .cells .now)) in
+    let m = machineOf (heldIn (a .read) (a .cells .now)) in
     steps-few m (s .pre .0) (a .steps .now) (a .marks .now) (s .pre .1) (p .judge-parts .ensures)
 
 returns-3 : tie.Need-returns-3
@@ -30,7 +31,7 @@ returns-3 c =
     let p = u .before .before .before .before .before in
     let s = p .before .before .before .before .before .before .before .before .before in
     let a = s .args in
-    let m = machineOf (tableIn (a .states) (a .initial) (a .count) (a .cells .now)) in
+    let m = machineOf (heldIn (a .read) (a .cells .now)) in
     on-bytes m (s .pre .0) (a .steps .now) (a .marks .now) (s .pre .1) (a .trace .now) (a .stamps .now)
     ((omega (arith, p .before .before .before .before .if1 .left), omega (arith, p .before .before .before .if2 .left)), tt)
     (u .used .ensures) _ _ (b .put-back-twos .ensures) (c .before .before .put-back-fours .ensures) (p .judge-parts .ensures)

@@ -3,28 +3,28 @@ use native.Mathlib.Omega.{arith}
 use mathlib.Core.Path.{_≡_, refl, sym, _∙_}
 use Prim.Native.Nat.{_-_}
 use lib.ListN.{drop}
-use Rattle.table.specs.Rows.{rows}
+use Rattle.table.specs.Rows.{said}
 use Rattle.table_file.specs.File.{frameIn}
+use Rattle.table_file.specs.Records.{recordAt, recorded}
 use Rattle.table.specs.Seen.{Marked}
 use Rattle.table_file.specs.declared.Frame.the-variants.{Last}
-use Rattle.table_file.proofs.ReadLaws.{Kept, TookAfter, kept-start, kept-bad, kept-last, kept-took, kept-stop, kept-rows, kept-more}
+use Rattle.table_file.proofs.ReadLaws.{Kept, TookAfter, kept-start, kept-bad, kept-last, kept-took, kept-stop, kept-more}
 use Rattle.table.proofs.SeenLaws.{marked-start}
-use Rattle.table.proofs.AddingLaws.{added-answer, added-marked}
 use lib.ListN.{length-drop}
 use Rattle.table_file.proofs.FrameLaws.{last-says}
-use Rattle.table_file.proofs.reader.read_rows.Statement.{statement}
-use Rattle.table_file.proofs.reader.read_rows.Tie as tie
+use Rattle.table_file.proofs.reader.check_rows.Statement.{statement}
+use Rattle.table_file.proofs.reader.check_rows.Tie as tie
 
 abbrev Inv-loop : tie.InvT-loop
-Inv-loop file states cells₀ seen₀ at₀ n₀ cells seen at n = Kept file states cells n at × Marked seen (rows cells n)
+Inv-loop file states seen₀ at₀ n₀ seen at n = Kept file states n at × Marked seen (recorded file n)
 
 abbrev μ-loop : tie.MeasureT-loop
-μ-loop file states cells₀ seen₀ at₀ n₀ cells seen at n = 257 - n
+μ-loop file states seen₀ at₀ n₀ seen at n = 257 - n
 
 loop-holds : tie.Need-loop-holds Inv-loop μ-loop
 loop-holds c =
     let a = c .before .args in
-    (kept-start (a .file .now) (a .states) (a .cells .now) (c .before .pre .0) (c .before .pre .1), marked-start _ _ refl)
+    (kept-start (a .file .now) (a .states) (c .before .pre), marked-start (λ i. said (recordAt (a .file .now) i)) _ refl)
 
 frame-requires : tie.Need-frame-requires Inv-loop μ-loop
 frame-requires c κs = c .loop .inv .0 .inside
@@ -37,7 +37,7 @@ returns c =
     let l = c .before .before .before .before .loop in
     let a = c .before .before .before .before .before .before .args in
     let e = sym (c .before .before .before .frame .ensures) ∙ c .before .f .given .1 in
-    kept-bad (a .file .now) (a .states) (l .cells) (l .n) (l .at) (l .inv .0) _ e
+    kept-bad (a .file .now) (a .states) (l .n) (l .at) (l .inv .0) _ e
 
 enum-told : tie.Need-enum-told Inv-loop μ-loop
 enum-told c = search needs
@@ -57,7 +57,7 @@ returns-2 : tie.Need-returns-2 Inv-loop μ-loop
 returns-2 c =
     let l = c .before .before .before .before .loop in
     let a = c .before .before .before .before .before .before .args in
-    kept-last (a .file .now) (a .states) (l .cells) (l .n) (l .at) (l .inv .0) (last (c .before)) _ (c .finish .ensures)
+    kept-last (a .file .now) (a .states) (l .n) (l .at) (l .inv .0) (last (c .before)) _ (c .finish .ensures)
 
 enum-known-f-2 : tie.Need-enum-known-f-2 Inv-loop μ-loop
 enum-known-f-2 c = search needs
@@ -66,46 +66,48 @@ enum-known-f-2 c = search needs
 took : (p : tie.After-f2 Inv-loop μ-loop) → let l = p .before .before .before .loop in TookAfter (p .before .before .before .before .before .args .file .now) (l .n) (l .at) (p .f2 .given .0 .0)
 took p =
     let l = p .before .before .before .loop in
-    kept-took (p .before .before .before .before .before .args .file .now) (p .before .before .before .before .before .args .states) (l .cells) (l .n) (l .at) (l .inv .0) _
+    kept-took (p .before .before .before .before .before .args .file .now) (p .before .before .before .before .before .args .states) (l .n) (l .at) (l .inv .0) _
     (sym (p .before .before .frame .ensures) ∙ p .f2 .given .1)
 
-add-row-requires : tie.Need-add-row-requires Inv-loop μ-loop
-add-row-requires c κs = search needs
+admit-requires : tie.Need-admit-requires Inv-loop μ-loop
+admit-requires c κs =
+    let l = c .before .before .before .before .before .loop in
+    let t = took (c .before .before) in
+    record { few = t .few; inside = omega (arith, t .inside, l .inv .0 .place); is = t .row; marked = l .inv .1 }
 
 enum-known-a : tie.Need-enum-known-a Inv-loop μ-loop
 enum-known-a c = search needs
 
 returns-3 : tie.Need-returns-3 Inv-loop μ-loop
 returns-3 c =
-    let l = c .before .before .before .before .before .before .before .before .before .before .loop in
-    let a = c .before .before .before .before .before .before .before .before .before .before .before .before .args in
-    kept-stop (a .file .now) (a .states) (l .cells) (l .n) (l .at) (l .inv .0) _ (took (c .before .before .before .before .before .before .before) .is) _
-    (sym (c .before .a .given .1) ∙ added-answer (l .inv .1) (c .before .before .before .add-row .ensures))
+    let f = c .before .before .before .before .before .before in
+    let l = f .before .before .before .loop in
+    let a = f .before .before .before .before .before .args in
+    kept-stop (a .file .now) (a .states) (l .n) (l .at) (l .inv .0) _ (took f .is) _ (sym (c .before .a .given .1) ∙ c .before .before .before .admit .ensures .answers)
 
 enum-told-2 : tie.Need-enum-told-2 Inv-loop μ-loop
 enum-told-2 c = search needs
 
 add-n : tie.Need-add-n Inv-loop μ-loop
-add-n c = omega (arith, took (c .before .before .before .before .before .before) .few)
+add-n c = omega (arith, took (c .before .before .before .before .before) .few)
 
 add-at : tie.Need-add-at Inv-loop μ-loop
-add-at c = omega (arith, took (c .before .before .before .before .before .before) .inside)
+add-at c = omega (arith, took (c .before .before .before .before .before) .inside)
 
 loop-less : tie.Need-loop-less Inv-loop μ-loop
-loop-less c = omega (arith, took (c .before .before .before .before .before .before) .few)
+loop-less c = omega (arith, took (c .before .before .before .before .before) .few)
 
 loop-again : tie.Need-loop-again Inv-loop μ-loop
 loop-again c =
-    let l = c .before .before .before .before .before .before .before .before .before .loop in
-    let a = c .before .before .before .before .before .before .before .before .before .before .before .args in
-    let d = rw (c .enum-told2 .given .1) at (c .before .before .add-row .ensures) in
-    let s = added-answer (l .inv .1) d in (
-      kept-more (a .file .now) (a .states) (l .cells) (l .n) (l .at) (l .inv .0) _ _ s (d .stores) (took (c .before .before .before .before .before .before) .is),
-      rw (kept-rows (a .file .now) (a .states) (l .cells) (l .n) (l .at) (l .inv .0) _ _ s (d .stores)) (added-marked (l .inv .1) d),
-    )
+    let d = c .before .before .admit .ensures in
+    let f = c .before .before .before .before .before in
+    let l = f .before .before .before .loop in
+    let a = f .before .before .before .before .before .args in
+    let e = c .enum-told2 .given .1 in
+    (kept-more (a .file .now) (a .states) (l .n) (l .at) (l .inv .0) _ (took f) (sym e ∙ d .answers), d .marks e)
 
-pub read-rows-spec : {M : Type 1} → statement M
-read-rows-spec =
+pub check-rows-spec : {M : Type 1} → statement M
+check-rows-spec =
     tie.close
     (tie.spec
     Inv-loop
@@ -118,7 +120,7 @@ read-rows-spec =
     finish-requires
     returns-2
     enum-known-f-2
-    add-row-requires
+    admit-requires
     enum-known-a
     returns-3
     enum-told-2

@@ -1,0 +1,55 @@
+-- The reader's work, record by record: record i of the transitions begins 8 + 18 i bytes into the file.
+use mathlib.Core.Path.{_≡_}
+use mathlib.Core.Bool.{Bool, cond}
+use mathlib.Core.List.{List, []}
+use Prim.Native.Nat.{ℕ, _+_, _*_, _≤_}
+use lib.Dec.{leb}
+use lib.ListN.{length, drop}
+use Rattle.model.specs.Table.{Transition}
+use Rattle.table.specs.declared.Refusal.the-variants.{Full}
+use Rattle.table.specs.declared.Row.{Row}
+use Rattle.table.specs.declared.Checked.{Checked}
+use Rattle.table.specs.declared.Checked.the-variants.{Sound, Refused}
+use Rattle.table_file.specs.declared.Counted.{Counted}
+use Rattle.table_file.specs.declared.Counted.the-variants.{Count, Stop}
+use Rattle.table_file.specs.declared.FileRead.{FileRead}
+use Rattle.table.specs.Refusal.{refusalNumber, refusalPlace}
+use Rattle.table.specs.Rows.{said, listed}
+use Rattle.table.specs.Check.{has}
+use Rattle.table.specs.Seen.{Marked}
+use Rattle.table_file.specs.File.{bodyIn, rowIn, admission, Listed, found, refused, rowsFrom, readFile, machine, stopped, bare, FileOutcome}
+
+-- the transition in record i, and those in the first n
+abbrev pub recordAt : List ℕ → ℕ → Row
+recordAt l i = rowIn (bodyIn 14 (drop (8 + i * 18) l))
+
+abbrev pub recorded : List ℕ → ℕ → List Transition
+recorded l n = listed (λ i. said (recordAt l i)) n
+
+-- 3 first, after n others
+unfoldable pub admitOf : ℕ → ℕ → ℕ → Bool → Transition → Checked
+admitOf states offset n met t = cond (leb 256 n) (Refused (Full offset)) (admission states offset met t)
+
+-- record n holds t, and those before it are marked
+pub record Next (l seen : List ℕ) (n : ℕ) (t : Row) : Type 0 where
+  pub few : n ≤ 256
+  pub inside : 8 + n * 18 + 18 ≤ length l
+  pub is : t ≡ recordAt l n
+  pub marked : Marked seen (recorded l n)
+
+-- then it is admitted or not, and marked if it is
+pub record Admitted (l : List ℕ) (states offset n : ℕ) (t : Row) (a : Checked) (seen : List ℕ) : Type 0 where
+  pub answers : a ≡ admitOf states offset n (has (said t) (recorded l n)) (said t)
+  pub marks : a ≡ Sound → Marked seen (recorded l (n + 1))
+
+-- what the loop over the records tells: how many were found, or the refusal
+abbrev pub RowsOutcome : ℕ → List ℕ → Counted → Type 0
+RowsOutcome states l (Count n) = (rowsFrom 256 states 8 (drop 8 l) [] ≡ found (recorded l n)) × (n ≤ 256) × (8 + n * 18 ≤ length l)
+RowsOutcome states l (Stop r) = rowsFrom 256 states 8 (drop 8 l) [] ≡ refused (refusalNumber r) (refusalPlace r)
+
+-- what a file was found to be: its records are within it, or none is counted
+pub record Scanned (l : List ℕ) (r : FileRead) : Type 0 where
+  pub tells : FileOutcome (readFile l) r
+  pub few : r .count ≤ 256
+  pub inside : r .answer ≡ Sound → 8 + r .count * 18 ≤ length l
+  pub holds : r .answer ≡ Sound → readFile l ≡ machine (record { states = r .states; initial = r .initial; transitions = recorded l (r .count) })
