@@ -1,2 +1,3 @@
-pub mod TraceLaws
 pub mod TraceOnly
+pub mod ShownLaws
+pub mod TraceLaws

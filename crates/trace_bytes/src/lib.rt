@@ -6,6 +6,7 @@ ghost use lib.ListN.{length};
 ghost use Rattle.verdict.specs.OnTrace.{traceFields};
 ghost use Rattle.trace_bytes.specs.Traces.{JudgeTraceBytesOutcome};
 
+mod shown;
 mod traces;
 
 // The verdict on a trace, with the table as a file.
@@ -18,7 +19,6 @@ pub fn judge_trace_bytes(file: &[u8], trace: &[u8], stamps: &mut [u8]) -> OnTrac
     if let Checked::Refused(r) = read {
         return OnTrace::Refused(r);
     }
-    let mut steps = [0u16; 512];
-    let mut marks = [0u32; 1024];
-    traces::judge_on(a.table, trace, stamps, &mut steps, &mut marks)
+    let t = a.table;
+    traces::judge_on(&t.cells, t.count, trace, stamps)
 }

@@ -1,42 +1,35 @@
-// The verdict on a trace in bytes with a table that was read.
-use table::Table;
+// The verdict on a trace in bytes with a table that was read: no more is kept than the decoded trace.
+use crate::shown;
+use table::Cells;
+use table::Refusal;
 use verdict::OnTrace;
 ghost use mathlib.Core.Path.{_≡_};
-ghost use Prim.Native.Nat.{_*_, _/_, _≤_};
+ghost use Prim.Native.Nat.{_/_};
 ghost use lib.ListN.{length};
-ghost use Rattle.model.specs.Table.{Valid};
-ghost use Rattle.table.specs.Rows.{machineOf};
+ghost use Rattle.model.specs.Table.{Machine};
+ghost use Rattle.table.specs.Fit.{Sound};
+ghost use Rattle.table.specs.Rows.{rows};
 ghost use Rattle.verdict.specs.OnTrace.{traceFields};
 ghost use Rattle.trace_bytes.specs.Traces.{TraceOnMachine};
 
-// How many stamp places a verdict on n steps uses: two for each step that it names.
-fn used(v: OnTrace, n: usize) -> usize
-    requires { ⌜ n ≤ 512 ⌝ }
-    ensures { λ k. ⌜ k ≡ 2 * traceFields n v .steps ⌝ }
+// Decodes the trace, finds the pair, and writes the words that show it. The head of the table is not looked at.
+pub(crate) fn judge_on(cells: &Cells, count: usize, trace: &[u8], stamps: &mut [u8]) -> OnTrace
+    requires { ⌜ Sound (now cells) count ⌝ }
+    ensures { λ r. ⌜ ((m : Machine) → rows (now (cells .entry)) count ≡ m .transitions
+        → TraceOnMachine m (now (trace .entry)) (now (stamps .entry)) (traceFields (length (now (trace .entry)) / 2) r) (now (stamps .exit))) ⌝ }
 {
-    match v {
-        OnTrace::Steady => 0,
-        OnTrace::Refused(_) => 0,
-        OnTrace::Turning(_, _) => 2 * n,
+    let mut steps = [0u16; 512];
+    let n = places::twos_in(trace, &mut steps);
+    let found = verdict::turning_pair(cells, count, &steps[..n]);
+    if let OnTrace::Refused(r) = found {
+        return OnTrace::Refused(r);
     }
-}
-
-// The call on values, with the trace decoded and the lent room in places, and the words that it shows written back.
-pub(crate) fn judge_on(
-    t: Table,
-    trace: &[u8],
-    stamps: &mut [u8],
-    steps: &mut [u16],
-    marks: &mut [u32],
-) -> OnTrace
-    requires { ⌜ Valid (machineOf t) ⌝ }
-    requires { ⌜ (length (now steps) ≡ 512) × (length (now marks) ≡ 1024) ⌝ }
-    ensures { λ r. ⌜ TraceOnMachine (machineOf t) (now (trace .entry)) (now (stamps .entry))
-        (traceFields (length (now (trace .entry)) / 2) r) (now (stamps .exit)) ⌝ }
-{
-    let n = places::twos_in(trace, steps);
-    let room = wire::lesser(stamps.len() / 4, 1024);
-    let r = verdict::judge_trace(t, &steps[..n], &mut marks[..room]);
-    places::put_back_fours(stamps, marks, used(r, n));
-    r
+    if stamps.len() / 4 < 2 * n {
+        return OnTrace::Refused(Refusal::NoRoom);
+    }
+    let OnTrace::Turning(k, m) = found else {
+        return OnTrace::Steady;
+    };
+    shown::put_words(cells, &steps[..n], k - 1, m - 1, stamps);
+    OnTrace::Turning(k, m)
 }
