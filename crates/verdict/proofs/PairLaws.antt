@@ -22,7 +22,7 @@ use Rattle.table.proofs.NamedLaws.{length-named, step-named}
 use Rattle.words.specs.Left.{Bounded}
 use Rattle.verdict.specs.declared.pairs.Partner.the-variants.{With, Alone}
 use Rattle.verdict.specs.declared.pairs.Pair.the-variants.{At, Nowhere}
-use Rattle.verdict.specs.Pairs.{PartnerOf, PairOf}
+use Rattle.verdict.specs.Pairs.{PartnerOf, PairOf, Passed}
 
 -- the sum over the steps after k and before m
 abbrev pub sofar : (Transition → ℕ) → List Transition → ℕ → ℕ → ℕ
@@ -150,13 +150,10 @@ module _ {c l : List ℕ} {k : ℕ} {f : Transition} {m u late : ℕ} (seen : Lo
             (eq-or-lt-of-le (omega arith));
       }
 
--- the search over k stands at k: no step before it turns with another
-unfoldable pub Passed : List Transition → ℕ → Type 0
-Passed tr k = (i j : ℕ) → i < k → Criterion tr i j → ⊥
-
-pub passed-none : (tr : List Transition) → Passed tr 0
+-- the search over k stands at k
+pub passed-by : (tr : List Transition) (k : ℕ) → ((i : ℕ) → i < k → PartnerOf tr i Alone) → Passed tr k
 unfolding Passed
-passed-none tr i j h = absurd (omega arith)
+passed-by tr k a i j h c = a i h j c
 
 module _ {tr : List Transition} {k : ℕ} (p : Passed tr k) where
   pub passed-more : PartnerOf tr k Alone → Passed tr (k + 1)

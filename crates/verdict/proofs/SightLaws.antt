@@ -13,17 +13,17 @@ use Rattle.words.specs.Left.{Bounded}
 use Rattle.verdict.specs.declared.marks.Mark.{Mark}
 use Rattle.verdict.specs.declared.sight.Sight.{Sight}
 use Rattle.verdict.specs.declared.pairs.Partner.the-variants.{Alone}
-use Rattle.verdict.specs.Pairs.{PartnerOf}
-use Rattle.verdict.specs.Times.{Times}
-use Rattle.verdict.specs.Calm.{Seen}
+use Rattle.verdict.specs.Pairs.{PartnerOf, Passed}
+use Rattle.verdict.specs.Times.{Numbered, Latest}
+use Rattle.verdict.specs.Calm.{standing, Seen, LookedBack}
 use Rattle.verdict.specs.Marks.{Clear, markAt, Covers}
 use Rattle.verdict.specs.Sight.{Far}
 use Rattle.verdict.proofs.TimeLaws.{calm-alone, clear-alone}
 use Rattle.verdict.proofs.MarkLaws.{clear-join, clear-under}
-use Rattle.verdict.proofs.PairLaws.{Passed, passed-none, passed-more}
+use Rattle.verdict.proofs.PairLaws.{passed-by, passed-more}
 
 -- no number from block r on is low enough
-pub clear-beyond : {early late lows : List ℕ} {calm : List Bool} {q : Mark} {n r : ℕ} → Seen early n lows calm 0 → r ≤ 64
+pub clear-beyond : {early late lows : List ℕ} {calm : List Bool} {q : Mark} {n r : ℕ} → Seen (standing early) n lows calm 0 → r ≤ 64
     → (r < 64 → q .time ≤ getD lows r 0) → Clear early late q (8 * r) n
 clear-beyond {r = r} s w t = record {
   none = λ m h l f. dite (decLt r 64) (λ i. omega (arith, f .before, t i, s .low r m (omega arith) h l)) (λ d. omega (arith, s .few));
@@ -38,8 +38,9 @@ far-by v w c = record { within = w; clear = λ k h e d. clear-under (v k e d) c 
 -- the search stands at k, and looks as far as s says
 pub record Searching (c l early late lows : List ℕ) (calm : List Bool) (s : Sight) (k : ℕ) : Type 0 where
   pub ready : Bounded c l
-  pub times : Times (named c l) early late (length l)
-  pub seen : Seen early (length l) lows calm 0
+  pub numbers : Numbered (named c l) early 0
+  pub times : Latest (named c l) late (length l)
+  pub seen : Seen (standing early) (length l) lows calm 0
   pub far : Far early late calm (length l) s
   pub within : k ≤ length l
   pub passed : Passed (named c l) k
@@ -50,15 +51,17 @@ either false f g = g refl
 
 module _ {c l early late lows : List ℕ} {calm : List Bool} where
   -- no block has this number
-  pub searching-first : Bounded c l → Times (named c l) early late (length l) → Seen early (length l) lows calm 0
-      → Searching c l early late lows calm (record { block = 64; far = 512 }) 0
-  searching-first r t s = record {
+  pub searching-first : {k : ℕ} → Bounded c l → Numbered (named c l) early 0 → Latest (named c l) late (length l)
+      → Seen (standing early) (length l) lows calm 0 → k ≤ length l → Passed (named c l) k
+      → Searching c l early late lows calm (record { block = 64; far = 512 }) k
+  searching-first r e t s h p = record {
     ready = r;
+    numbers = e;
     times = t;
     seen = s;
     far = record { within = omega arith; clear = λ k h e. absurd (omega arith) };
-    within = omega arith;
-    passed = passed-none (named c l);
+    within = h;
+    passed = p;
   }
 
   module _ {s : Sight} {k : ℕ} (q : Searching c l early late lows calm s k) (h : k < length l)
@@ -66,6 +69,7 @@ module _ {c l early late lows : List ℕ} {calm : List Bool} where
     pub searching-more : PartnerOf (named c l) k Alone → Searching c l early late lows calm t (k + 1)
     searching-more a = record {
       ready = q .ready;
+      numbers = q .numbers;
       times = q .times;
       seen = q .seen;
       far = far;
@@ -78,8 +82,17 @@ module _ {c l early late lows : List ℕ} {calm : List Bool} where
         → PartnerOf (named c l) k Alone
     ruled-out b x =
         let n : length l ≡ length (named c l) = sym (length-named c l) in
-        let times : Times (named c l) early late (length (named c l)) = rw n at (q .times) in
+        let few : length (named c l) ≤ 512 = omega (arith, n, q .ready .few) in
         either (getD calm k false)
-        (λ e. calm-alone times (q .ready .ranged) (rw n at (q .seen .still k (omega arith) h e)))
-        (λ e. clear-alone times (q .ready .ranged)
+        (λ e. calm-alone (q .numbers) (q .ready .ranged) few (rw n at (q .seen .still k (omega arith) h e)))
+        (λ e. clear-alone (q .numbers) (q .ready .ranged) few (rw n at (q .times))
         (rw n at (clear-join (x e) (far .clear k (omega (arith, q .ready .few)) (sym (b e)) e))))
+
+-- what the look back left, and the first step that is not calm
+module _ {c l early lows : List ℕ} {calm : List Bool} {k : ℕ} (r : Bounded c l) (b : LookedBack (named c l) early lows calm k) where
+  pub looked-seen : Seen (standing early) (length l) lows calm 0
+  looked-seen = rw (length-named c l) at (b .seen)
+
+  pub looked-passed : Passed (named c l) k
+  looked-passed =
+      passed-by (named c l) k (λ i h. calm-alone (b .numbers) (r .ranged) (omega (arith, length-named c l, r .few)) (b .before i h))

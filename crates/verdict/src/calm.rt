@@ -1,10 +1,14 @@
 // A look back from the last step: what is due soonest from each step on.
+use crate::times;
 use crate::times::Numbers;
+use table::Cells;
 ghost use mathlib.Core.Path.{_≡_};
-ghost use mathlib.Core.Bool.{true};
+ghost use mathlib.Core.Bool.{true, false};
 ghost use Prim.Native.Nat.{ℕ, _-_, _%_, _≤_};
 ghost use lib.ListN.{length};
-ghost use Rattle.verdict.specs.Calm.{Over, Seen};
+ghost use Rattle.table.specs.Rows.{named};
+ghost use Rattle.words.specs.Left.{Bounded};
+ghost use Rattle.verdict.specs.Calm.{Over, LookedBack};
 
 // Of the numbers from some step on, the least, and the least with another letter than that.
 pub(crate) struct Soon {
@@ -52,23 +56,44 @@ impl Soon {
     }
 }
 
-// The least number from each block of eight steps on, and which steps are calm: no later one with another letter is due before them.
-pub(crate) fn look_back(early: &Numbers, n: usize, lows: &mut [u32; 64], calm: &mut [bool; 512])
-    requires { ⌜ (n ≤ 512) × (length (now lows) ≡ 64) × (length (now calm) ≡ 512) ⌝ }
-    ensures { λ _. ⌜ Seen (now (early .entry)) n (now (lows .exit)) (now (calm .exit)) 0 ⌝ }
+// The first step that is not calm, with p before all others.
+fn first_unless(still: bool, p: usize, first: usize) -> usize
+    ensures { λ r. ⌜ (still ≡ true → r ≡ first) × (still ≡ false → r ≡ p) ⌝ }
+{
+    if still { first } else { p }
+}
+
+// The least number from each block of eight steps on, which steps are calm: no later one with another letter is due before them; and the first that is not.
+pub(crate) fn look_back(
+    cells: &Cells,
+    trace: &[u16],
+    early: &mut Numbers,
+    lows: &mut [u32; 64],
+    calm: &mut [bool; 512],
+) -> usize
+    requires { ⌜ Bounded (now cells) (now trace) × (length (now early) ≡ 512) × (length (now lows) ≡ 64) × (length (now calm) ≡ 512) ⌝ }
+    ensures { λ f. ⌜ LookedBack (named (now (cells .entry)) (now (trace .entry))) (now (early .exit)) (now (lows .exit)) (now (calm .exit)) f ⌝ }
 {
     let mut s = Soon {
         first: 4294967295,
         other: 4294967295,
     };
-    let mut p = n;
+    let mut arrival: u32 = 2096640;
+    let mut first = trace.len();
+    let mut p = trace.len();
     while 0 < p {
         p -= 1;
-        let e = early[p];
-        calm[p] = s.after(e);
+        let r = words::step(cells, trace, p);
+        let e = times::early_number(r, arrival);
+        arrival -= r.u as u32;
+        early[p] = e;
+        let still = s.after(e);
+        calm[p] = still;
+        first = first_unless(still, p, first);
         s = s.with(e);
         if p % 8 == 0 {
             lows[p / 8] = s.first;
         }
     }
+    first
 }

@@ -5,13 +5,13 @@ use crate::sight::Sight;
 use crate::times;
 use crate::times::Numbers;
 use table::Cells;
-ghost use Prim.Native.Nat.{_<_};
+ghost use Prim.Native.Nat.{_≤_, _<_};
 ghost use lib.ListN.{length};
 ghost use Rattle.table.specs.Rows.{named};
 ghost use Rattle.words.specs.Left.{Bounded};
-ghost use Rattle.verdict.specs.Calm.{Seen};
-ghost use Rattle.verdict.specs.Pairs.{PartnerOf, PairOf};
-ghost use Rattle.verdict.specs.Times.{Times};
+ghost use Rattle.verdict.specs.Calm.{standing, Seen};
+ghost use Rattle.verdict.specs.Pairs.{PartnerOf, PairOf, Passed};
+ghost use Rattle.verdict.specs.Times.{Numbered, Latest};
 
 // The step that turns with another.
 pub(crate) enum Partner {
@@ -50,7 +50,7 @@ pub(crate) fn partner_of(cells: &Cells, trace: &[u16], k: usize) -> Partner
     Partner::Alone
 }
 
-// The least k that turns with a later step, and the least such step. Steps that the numbers rule out are not looked at.
+// The least k from `from` on that turns with a later step, and the least such step. Steps that the numbers rule out are not looked at.
 fn pair_by_numbers(
     cells: &Cells,
     trace: &[u16],
@@ -58,16 +58,18 @@ fn pair_by_numbers(
     late: &Numbers,
     lows: &[u32; 64],
     calm: &[bool; 512],
+    from: usize,
 ) -> Pair
-    requires { ⌜ Bounded (now cells) (now trace) × Times (named (now cells) (now trace)) (now early) (now late) (length (now trace))
-        × Seen (now early) (length (now trace)) (now lows) (now calm) 0 ⌝ }
+    requires { ⌜ Bounded (now cells) (now trace) × Numbered (named (now cells) (now trace)) (now early) 0
+        × Latest (named (now cells) (now trace)) (now late) (length (now trace)) × Seen (standing (now early)) (length (now trace)) (now lows) (now calm) 0
+        × (from ≤ length (now trace)) × Passed (named (now cells) (now trace)) from ⌝ }
     ensures { λ r. ⌜ PairOf (named (now (cells .entry)) (now (trace .entry))) r ⌝ }
 {
     let mut sight = Sight {
         block: 64,
         far: 512,
     };
-    let mut k: usize = 0;
+    let mut k = from;
     while k < trace.len() {
         sight = sight::sight_at(early, late, lows, calm, k, sight);
         if sight::may_turn(early, late, calm, k, sight.far) {
@@ -81,16 +83,40 @@ fn pair_by_numbers(
     Pair::Nowhere
 }
 
-// The same from the steps alone. Past the last step stands the greatest number, which no step asks for.
+// The same by what the look back left: the latest times are asked for now. Past the last step stands the greatest number, which no step asks for.
+fn pair_from(
+    cells: &Cells,
+    trace: &[u16],
+    early: &Numbers,
+    lows: &[u32; 64],
+    calm: &[bool; 512],
+    from: usize,
+) -> Pair
+    requires { ⌜ Bounded (now cells) (now trace) × Numbered (named (now cells) (now trace)) (now early) 0
+        × Seen (standing (now early)) (length (now trace)) (now lows) (now calm) 0
+        × (from ≤ length (now trace)) × Passed (named (now cells) (now trace)) from ⌝ }
+    ensures { λ r. ⌜ PairOf (named (now (cells .entry)) (now (trace .entry))) r ⌝ }
+{
+    let mut late = [0u32; 512];
+    times::fill(cells, trace, &mut late);
+    pair_by_numbers(cells, trace, early, &late, lows, calm, from)
+}
+
+// The least pair that turns. The first step that is not calm is looked at by itself: most traces are decided there.
 pub(crate) fn least_pair(cells: &Cells, trace: &[u16]) -> Pair
     requires { ⌜ Bounded (now cells) (now trace) ⌝ }
     ensures { λ r. ⌜ PairOf (named (now (cells .entry)) (now (trace .entry))) r ⌝ }
 {
     let mut early = [4294967295u32; 512];
-    let mut late = [0u32; 512];
-    times::fill(cells, trace, &mut early, &mut late);
     let mut lows = [4294967295u32; 64];
     let mut calm = [true; 512];
-    calm::look_back(&early, trace.len(), &mut lows, &mut calm);
-    pair_by_numbers(cells, trace, &early, &late, &lows, &calm)
+    let first = calm::look_back(cells, trace, &mut early, &mut lows, &mut calm);
+    if trace.len() <= first {
+        return Pair::Nowhere;
+    }
+    let found = partner_of(cells, trace, first);
+    if let Partner::With(m) = found {
+        return Pair::At(first, m);
+    }
+    pair_from(cells, trace, &early, &lows, &calm, first + 1)
 }

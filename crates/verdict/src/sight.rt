@@ -6,7 +6,7 @@ ghost use mathlib.Core.Path.{_≡_};
 ghost use mathlib.Core.Bool.{false};
 ghost use Prim.Native.Nat.{ℕ, _/_, _≤_, _<_};
 ghost use lib.ListN.{getD};
-ghost use Rattle.verdict.specs.Calm.{Seen};
+ghost use Rattle.verdict.specs.Calm.{standing, Seen};
 ghost use Rattle.verdict.specs.Marks.{Clear, markAt};
 ghost use Rattle.verdict.specs.Sight.{Far};
 
@@ -55,7 +55,7 @@ fn look_ahead(
     i: usize,
 ) -> Sight
     requires { ⌜ i < 64 ⌝ }
-    ensures { λ s. ⌜ (s .block ≡ i) × ((n : ℕ) → Seen (now (early .entry)) n (now (lows .entry)) (now (calm .entry)) 0
+    ensures { λ s. ⌜ (s .block ≡ i) × ((n : ℕ) → Seen (standing (now (early .entry))) n (now (lows .entry)) (now (calm .entry)) 0
         → Far (now (early .entry)) (now (late .entry)) (now (calm .entry)) n s) ⌝ }
 {
     let all = marks::mark_block(early, late, calm, i);
@@ -81,7 +81,7 @@ pub(crate) fn sight_at(
 ) -> Sight
     requires { ⌜ k < 512 ⌝ }
     ensures { λ s. ⌜ (getD (now (calm .entry)) k false ≡ false → s .block ≡ k / 8)
-        × ((n : ℕ) → Seen (now (early .entry)) n (now (lows .entry)) (now (calm .entry)) 0
+        × ((n : ℕ) → Seen (standing (now (early .entry))) n (now (lows .entry)) (now (calm .entry)) 0
         → Far (now (early .entry)) (now (late .entry)) (now (calm .entry)) n last
         → Far (now (early .entry)) (now (late .entry)) (now (calm .entry)) n s) ⌝ }
 {

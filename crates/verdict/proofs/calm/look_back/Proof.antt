@@ -1,65 +1,65 @@
+-- What is not named follows from the arithmetic around it.
 use borrow.Author.Needs.{needs}
 use native.Mathlib.Omega.{arith}
 use mathlib.Core.Path.{_≡_}
-use Rattle.verdict.proofs.CalmLaws.{Looking, looking-more, looking-block}
+use mathlib.Core.List.{List}
+use Prim.Native.Nat.{ℕ, _-_, _<_}
+use lib.ListN.{length}
+use Rattle.table.specs.Rows.{named}
+use Rattle.verdict.specs.Times.{numberOf}
+use Rattle.verdict.proofs.CalmLaws.{Looking, looking-none, looking-more, looking-block, Back, back-none, back-small, number-here, back-more, looked-back}
 use Rattle.verdict.proofs.calm.look_back.Statement.{statement}
 use Rattle.verdict.proofs.calm.look_back.Tie as tie
 
 abbrev Inv-loop : tie.InvT-loop
-Inv-loop early n lows₀ calm₀ s₀ p₀ lows calm s p = Looking early n lows calm s p
+Inv-loop cells trace early₀ lows₀ calm₀ s₀ arrival₀ first₀ p₀ early lows calm s arrival first p =
+    Back cells trace early arrival p × Looking (numberOf (named cells trace)) (length trace) lows calm s first p
 
 abbrev μ-loop : tie.MeasureT-loop
-μ-loop early n lows₀ calm₀ s₀ p₀ lows calm s p = p
+μ-loop cells trace early₀ lows₀ calm₀ s₀ arrival₀ first₀ p₀ early lows calm s arrival first p = p
 
 loop-holds : tie.Need-loop-holds Inv-loop μ-loop
-loop-holds c = search needs
+loop-holds c =
+    let p = c .before .pre in
+    (back-none (p .0) (p .1), looking-none _ _ _ _ (p .0 .few) (p .2) (p .3))
 
-sub-p : tie.Need-sub-p Inv-loop μ-loop
-sub-p c = search needs
+early-number-requires : tie.Need-early-number-requires Inv-loop μ-loop
+early-number-requires c κs = omega (arith, back-small (c .before .before .loop .inv .0) (omega arith) (c .step .result) (c .step .ensures))
 
-mul-e : tie.Need-mul-e Inv-loop μ-loop
-mul-e c = search needs
-
-element-copy-out-e : tie.Need-element-copy-out-e Inv-loop μ-loop
-element-copy-out-e c = search needs
-
-after-requires : tie.Need-after-requires Inv-loop μ-loop
-after-requires c κs = search needs
-
-element-write-calm : tie.Need-element-write-calm Inv-loop μ-loop
-element-write-calm c = search needs
-
-with-requires : tie.Need-with-requires Inv-loop μ-loop
-with-requires c κs = search needs
-
-mul-lows : tie.Need-mul-lows Inv-loop μ-loop
-mul-lows c = search needs
-
-element-write-lows : tie.Need-element-write-lows Inv-loop μ-loop
-element-write-lows c = search needs
-
-loop-less : tie.Need-loop-less Inv-loop μ-loop
-loop-less c = search needs
+sub-arrival : tie.Need-sub-arrival Inv-loop μ-loop
+sub-arrival c =
+    let s = c .before .before in
+    omega (arith, back-small (s .before .before .loop .inv .0) (omega arith) (s .step .result) (s .step .ensures))
 
 loop-again : tie.Need-loop-again Inv-loop μ-loop
 loop-again c =
-    let l = c .before .before .before .before .before .loop in
-    looking-block (l .inv) (omega arith) (c .before .before .after .result) (c .before .before .after .ensures) (c .before .with .result) (c .before .with .ensures)
-    (omega arith)
-
-loop-less-2 : tie.Need-loop-less-2 Inv-loop μ-loop
-loop-less-2 c = search needs
+    let a = c .before .before .before in
+    let e = a .before .before in
+    let s = e .before in
+    let l = s .before .before .loop .inv in
+    let n = number-here (l .0) (omega arith) (s .step .result) (s .step .ensures) (e .early-number .result) (e .early-number .ensures) in (
+      back-more (l .0) (omega arith) (s .step .result) (s .step .ensures) (e .early-number .result) (e .early-number .ensures),
+      looking-block (l .1) (omega arith) n (a .after .result) (a .after .ensures) (c .before .with .result) (c .before .with .ensures)
+          (c .before .before .first-unless .result) (c .before .before .first-unless .ensures) (omega arith),
+    )
 
 loop-again-2 : tie.Need-loop-again-2 Inv-loop μ-loop
 loop-again-2 c =
-    let l = c .before .before .before .before .before .loop in
-    looking-more (l .inv) (omega arith) (c .before .before .after .result) (c .before .before .after .ensures) (c .before .with .result) (c .before .with .ensures)
-    (c .if1 .left)
+    let a = c .before .before .before in
+    let e = a .before .before in
+    let s = e .before in
+    let l = s .before .before .loop .inv in
+    let n = number-here (l .0) (omega arith) (s .step .result) (s .step .ensures) (e .early-number .result) (e .early-number .ensures) in (
+      back-more (l .0) (omega arith) (s .step .result) (s .step .ensures) (e .early-number .result) (e .early-number .ensures),
+      looking-more (l .1) (omega arith) n (a .after .result) (a .after .ensures) (c .before .with .result) (c .before .with .ensures)
+          (c .before .before .first-unless .result) (c .before .before .first-unless .ensures) (c .if1 .left),
+    )
 
 returns : tie.Need-returns Inv-loop μ-loop
 returns c =
     let z : c .before .loop .p ≡ 0 = omega arith in
-    rw z at (c .before .loop .inv .seen)
+    let l = rw z at (c .before .loop .inv) in
+    looked-back (l .0) (l .1)
 
 pub look-back-spec : {M : Type 1} → statement M
 look-back-spec =
@@ -68,16 +68,21 @@ look-back-spec =
     Inv-loop
     μ-loop
     loop-holds
-    sub-p
-    mul-e
-    element-copy-out-e
-    after-requires
-    element-write-calm
-    with-requires
-    mul-lows
-    element-write-lows
-    loop-less
+    (λ c. search needs)
+    (λ c κs. search needs)
+    early-number-requires
+    (λ c. search needs)
+    sub-arrival
+    (λ c. search needs)
+    (λ c. search needs)
+    (λ c κs. search needs)
+    (λ c. search needs)
+    (λ c κs. search needs)
+    (λ c κs. search needs)
+    (λ c. search needs)
+    (λ c. search needs)
+    (λ c. search needs)
     loop-again
-    loop-less-2
+    (λ c. search needs)
     loop-again-2
     returns)

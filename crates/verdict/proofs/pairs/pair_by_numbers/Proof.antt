@@ -19,15 +19,15 @@ is-alone (Partner.With m) e = absurd (omega arith)
 is-alone Partner.Alone e = refl
 
 abbrev Inv-loop : tie.InvT-loop
-Inv-loop cells trace early late lows calm sight₀ k₀ sight k = Searching cells trace early late lows calm sight k
+Inv-loop cells trace early late lows calm from sight₀ k₀ sight k = Searching cells trace early late lows calm sight k
 
 abbrev μ-loop : tie.MeasureT-loop
-μ-loop cells trace early late lows calm sight₀ k₀ sight k = length trace - k
+μ-loop cells trace early late lows calm from sight₀ k₀ sight k = length trace - k
 
 loop-holds : tie.Need-loop-holds Inv-loop μ-loop
 loop-holds c =
     let a = c .before .pre in
-    searching-first (a .0) (a .1) (a .2)
+    searching-first (a .0) (a .1) (a .2) (a .3) (a .4) (a .5)
 
 sight-at-requires : tie.Need-sight-at-requires Inv-loop μ-loop
 sight-at-requires c κs = search needs

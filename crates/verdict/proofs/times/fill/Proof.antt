@@ -1,3 +1,4 @@
+-- What is not named follows from the arithmetic around it.
 use borrow.Author.Needs.{needs}
 use native.Mathlib.Omega.{arith}
 use mathlib.Core.Path.{_≡_, refl}
@@ -8,72 +9,25 @@ use Rattle.verdict.proofs.times.fill.Statement.{statement}
 use Rattle.verdict.proofs.times.fill.Tie as tie
 
 abbrev Inv-loop : tie.InvT-loop
-Inv-loop cells trace early₀ late₀ u₀ v₀ j₀ early late u v j = Filling cells trace early late u v j
+Inv-loop cells trace late₀ v₀ j₀ late v j = Filling cells trace late v j
 
 abbrev μ-loop : tie.MeasureT-loop
-μ-loop cells trace early₀ late₀ u₀ v₀ j₀ early late u v j = length trace - j
+μ-loop cells trace late₀ v₀ j₀ late v j = length trace - j
 
-loop-holds : tie.Need-loop-holds Inv-loop μ-loop
-loop-holds c = search needs
-
-step-requires : tie.Need-step-requires Inv-loop μ-loop
-step-requires c κs = search needs
-
-cast-u : tie.Need-cast-u Inv-loop μ-loop
-cast-u c = search needs
-
-add-u : tie.Need-add-u Inv-loop μ-loop
-add-u c =
-    let s = c .before .step in
-    let l = c .before .before .before .loop in
-    omega (arith, next-small (l .inv) (omega arith) (s .result) (s .ensures) _ refl)
-
-late-gap-requires : tie.Need-late-gap-requires Inv-loop μ-loop
-late-gap-requires c κs = search needs
-
+-- the sum that the code makes at the step that it looks at
 add-v : tie.Need-add-v Inv-loop μ-loop
 add-v c =
-    let s = c .before .before .step in
-    let l = c .before .before .before .before .loop in
-    omega (arith, next-small (l .inv) (omega arith) (s .result) (s .ensures) (c .late-gap .result) (c .late-gap .ensures))
-
-early-number-requires : tie.Need-early-number-requires Inv-loop μ-loop
-early-number-requires c κs =
-    let s = c .before .before .step in
-    let l = c .before .before .before .before .loop in
-    omega (arith, next-small (l .inv) (omega arith) (s .result) (s .ensures) (c .late-gap .result) (c .late-gap .ensures))
-
-mul-early : tie.Need-mul-early Inv-loop μ-loop
-mul-early c = search needs
-
-element-write-early : tie.Need-element-write-early Inv-loop μ-loop
-element-write-early c = search needs
+    omega (arith, next-small (c .before .before .before .loop .inv) (omega arith) (c .before .step .result) (c .before .step .ensures) (c .late-gap .result) (c .late-gap .ensures))
 
 late-number-requires : tie.Need-late-number-requires Inv-loop μ-loop
 late-number-requires c κs =
-    let s = c .before .before .before .step in
-    let l = c .before .before .before .before .before .loop in
-    omega (arith, next-small (l .inv) (omega arith) (s .result) (s .ensures) (c .before .late-gap .result) (c .before .late-gap .ensures))
-
-mul-late : tie.Need-mul-late Inv-loop μ-loop
-mul-late c = search needs
-
-element-write-late : tie.Need-element-write-late Inv-loop μ-loop
-element-write-late c = search needs
-
-add-j : tie.Need-add-j Inv-loop μ-loop
-add-j c = search needs
-
-loop-less : tie.Need-loop-less Inv-loop μ-loop
-loop-less c = search needs
+    omega (arith, next-small (c .before .before .before .loop .inv) (omega arith) (c .before .step .result) (c .before .step .ensures) (c .late-gap .result) (c .late-gap .ensures))
 
 loop-again : tie.Need-loop-again Inv-loop μ-loop
 loop-again c =
-    let s = c .before .before .before .before .step in
-    let g = c .before .before .late-gap in
-    let l = c .before .before .before .before .before .before .loop in
-    filling-more (l .inv) (omega arith) (s .result) (s .ensures) (g .result) (g .ensures)
-    (c .before .early-number .result) (c .before .early-number .ensures) (c .late-number .result) (c .late-number .ensures)
+    let g = c .before in
+    filling-more (g .before .before .before .loop .inv) (omega arith) (g .before .step .result) (g .before .step .ensures) (g .late-gap .result) (g .late-gap .ensures)
+    (c .late-number .result) (c .late-number .ensures)
 
 returns : tie.Need-returns Inv-loop μ-loop
 returns c =
@@ -87,19 +41,14 @@ fill-spec =
     (tie.spec
     Inv-loop
     μ-loop
-    loop-holds
-    step-requires
-    cast-u
-    add-u
-    late-gap-requires
+    (λ c. search needs)
+    (λ c κs. search needs)
+    (λ c κs. search needs)
     add-v
-    early-number-requires
-    mul-early
-    element-write-early
     late-number-requires
-    mul-late
-    element-write-late
-    add-j
-    loop-less
+    (λ c. search needs)
+    (λ c. search needs)
+    (λ c. search needs)
+    (λ c. search needs)
     loop-again
     returns)
