@@ -1,12 +1,12 @@
 -- Laws of the walk back: every number is explained, and the walk that explains it is written.
 use mathlib.Core.Path.{_≡_, refl, sym, _∙_}
 use mathlib.Core.Logic.{⊎-elim}
-use mathlib.Core.List.{List, [], _∷_, _++_, append-assoc}
+use mathlib.Core.List.{List, [], _∷_, _++_, append-assoc, append-nil}
 use Prim.Native.Nat.{ℕ, zero, suc, _+_, _-_, _≤_, _<_}
 use native.Mathlib.Numerals.{add-one}
 use native.Mathlib.Omega.{arith}
-use lib.ListN.{length, getD, set, take, drop, length-append, length-take}
-use lib.Seq.{set-at, set-split, drop-cons, take-suc-set, drop-set-lt}
+use lib.ListN.{length, set, take, drop, length-append, length-set}
+use lib.Seq.{paste, take-all, drop-length, drop-cons, getD-set-same, drop-set-lt}
 use Rattle.model.specs.Lists.{All}
 use Rattle.model.specs.Table.{Transition, InRange, at, none}
 use Rattle.model.specs.Trace.{Trace, steps}
@@ -28,14 +28,11 @@ use Rattle.walks.proofs.BestLaws.{filled-less}
 use Rattle.walks.proofs.EndLaws.{ends-by, ends-closes, end-possible}
 use Rattle.walks.proofs.SoonLaws.{rows-cover}
 
--- one more number behind those that stand from place p on
-store-more : (p n : ℕ) (old rest : List ℕ) (j : ℕ) → length rest ≡ n → p + n < length old
-    → set (take p old ++ (rest ++ drop (p + n) old)) (p + n) j ≡ take p old ++ ((rest ++ (j ∷ [])) ++ drop (p + (n + 1)) old)
-store-more p n old rest j l h =
-    let e : p + (n + 1) ≡ suc (p + n) = omega arith in
-    let k : length (take p old ++ rest) ≡ p + n = simp (length-append, length-take) (omega arith) in
-    let s = set-at (take p old ++ rest) (getD old (p + n) 0) (drop (suc (p + n)) old) j (p + n) k in
-    rw (e, drop-cons old (p + n) 0 h) (simp append-assoc (simp append-assoc at s))
+-- one more number right before what stands from a place on
+store-before : (p to : ℕ) (old : List ℕ) (j : ℕ) → to ≡ p + 1 → to ≤ length old → drop p (set old p j) ≡ j ∷ drop to old
+store-before p to old j e h =
+    let l : p < length (set old p j) = simp length-set (omega arith) in
+    rw (e, add-one p, drop-cons (set old p j) p 0 l, getD-set-same old p j 0 (omega arith), drop-set-lt (suc p) old p j (omega arith))
 
 -- the tests of a last step, with the transition that the code has read
 module _ {ts : List Transition} {best : List ℕ} {e a j : ℕ} {t : Transition} (z : Seen ts j t) where
@@ -143,37 +140,39 @@ module _ {ts : List Transition} {s : ℕ} {best : List ℕ} where
 
   -- at the last step j of a walk, with the row a of the walk before it
   module _ {j sum a : ℕ} (whole : sum ≡ a + at ts j .u) (p : Stands ts s best (at ts j .from) a) where
-    went-first : (d : ℕ) (old : List ℕ) → d < length old → a ≡ 0 → 1 ≤ at ts j .u → Went ts s best j sum d old (set old d j) 1
+    went-first : (d to : ℕ) (old : List ℕ) → to ≡ d + 1 → to ≤ length old → a ≡ 0 → 1 ≤ at ts j .u → Went ts s best j sum to old (set old d j) d
     unfolding steps
-    went-first d old h z f =
+    went-first d to old e h z f =
         let w = stands-start p z in
         record {
           rest = [];
           path = w .0;
           whole = omega arith;
           late = rw z at (w .1);
-          number = refl;
+          number = e;
           short = omega arith;
-          traced = rw (add-one d) (set-split old d j h);
+          traced = store-before d to old j e h;
+          size = length-set old d j;
         }
 
-    went-on : {i : ℕ} → i < length ts → 1 ≤ at ts j .u → Explains ts best (at ts j .from) a i → (d : ℕ) (old mid : List ℕ) (n : ℕ) → d + sum ≤ length old
-        → Went ts s best i a d old mid n → Went ts s best j sum d old (set mid (d + n) j) (n + 1)
-    went-on {i} k f x d old mid n h w =
+    went-on : {i : ℕ} → i < length ts → 1 ≤ at ts j .u → Explains ts best (at ts j .from) a i → (d to : ℕ) (old out : List ℕ) (n : ℕ) → to ≡ d + 1 → to ≤ length old
+        → Went ts s best i a d (set old d j) out n → Went ts s best j sum to old out n
+    went-on {i} k f x d to old out n e h w =
         let l : List ℕ = w .rest ++ (i ∷ []) in
         let u = sum-last ts (λ t. t .u) (w .rest) i in
         let q : span (steps ts l) .u ≡ a = omega (arith, w .whole) in
         let r : x .left ≡ span (steps ts (w .rest)) .u = omega (arith, x .whole, w .whole) in
         let y = rw r at (x .sum) in
-        let c : length l ≡ n = simp length-append (omega (arith, w .number)) in
+        let c : length l ≡ length (w .rest) + 1 = simp length-append in
         record {
           rest = l;
           path = rw (x .to) at (trace-last ts s (w .rest) i k (w .path));
           whole = omega arith;
           late = rw q (omega (arith, w .late, sum-last ts lateGap (w .rest) i));
-          number = omega arith;
+          number = omega (arith, w .number);
           short = omega (arith, w .short);
-          traced = rw (w .traced) (store-more d n old l j c (omega (arith, w .short)));
+          traced = w .traced ∙ rw (store-before d to old j e h) (sym (append-assoc l (j ∷ []) (drop to old)));
+          size = w .size ∙ length-set old d j;
         }
 
   -- the same, with the transition that the code has read
@@ -193,25 +192,21 @@ module _ {ts : List Transition} {s : ℕ} {best : List ℕ} where
     pub step-falls : t .u ≤ sum
     step-falls = let h : at ts j .u ≤ sum = omega (arith, p .whole) in rw (z .here) at h
 
-    -- so there is a place for it behind the walk before it
-    pub step-less : {n : ℕ} → n ≤ sum - t .u → n < sum
-    step-less h = omega (arith, step-falls, z .fine .low)
-
     pub back-stands : Stands ts s best (t .from) (sum - t .u)
     back-stands = rw (z .here) at stands-here
 
-    pub first-went : {d : ℕ} {old : List ℕ} {y : ℕ} → y ≡ j → d + sum ≤ length old → sum - t .u ≡ 0 → Went ts s best j sum d old (set old d y) 1
-    first-went {d} {old} q h n = rw q (went-first whole-here stands-here d old (omega (arith, own, whole-here)) n own)
+    module _ {d to : ℕ} {old : List ℕ} {y : ℕ} (q : y ≡ j) (e : to ≡ d + 1) (l : to ≤ length old) where
+      pub first-went : sum - t .u ≡ 0 → Went ts s best j sum to old (set old d y) d
+      first-went n = rw q (went-first whole-here stands-here d to old e l n own)
 
-    module _ {i : ℕ} (h : i < length ts) (x : Explains ts best (t .from) (sum - t .u) i) where
-      pub back-on : Back ts s best i (sum - t .u)
-      back-on = record { known = h; left = x .left; whole = x .whole; stands = stands-on back-stands i h x }
-
-      pub went-step : {d : ℕ} {old mid : List ℕ} {n y : ℕ} → y ≡ j → d + sum ≤ length old → Went ts s best i (sum - t .u) d old mid n
-          → Went ts s best j sum d old (set mid (d + n) y) (n + 1)
-      went-step {d} {old} {mid} {n} q l w =
+      pub went-step : {i : ℕ} → i < length ts → Explains ts best (t .from) (sum - t .u) i → {out : List ℕ} {n : ℕ}
+          → Went ts s best i (sum - t .u) d (set old d y) out n → Went ts s best j sum to old out n
+      went-step {i} h x {out} {n} w =
           let v : Explains ts best (at ts j .from) (sum - t .u) i = rw (z .here) x in
-          rw q (went-on whole-here stands-here h own v d old mid n l w)
+          went-on whole-here stands-here h own v d to old out n e l (rw q at w)
+
+    pub back-on : {i : ℕ} → i < length ts → Explains ts best (t .from) (sum - t .u) i → Back ts s best i (sum - t .u)
+    back-on {i} h x = record { known = h; left = x .left; whole = x .whole; stands = stands-on back-stands i h x }
 
 -- the rows that are made for a transition, one more than it asks for
 pub show-ready : {goal : Goal} {ts : List Transition} {k n rows : ℕ} {best : List ℕ} {first : Transition} {soon : Soonest} → Seen ts k first
@@ -306,21 +301,20 @@ module _ {goal : Goal} {ts : List Transition} {k m : ℕ} {best : List ℕ} {sum
       let above = goal-sought goal .above (at ts k) (at ts m) sum _ (x .meets) in
       ends-by goal rest (x .back .known) p (goal-sought goal .moves (at ts k) (at ts m) sum _ _ _ (x .meets) (rw u at above) (omega arith))
 
-  show-walk : (p : ℕ) (old out : List ℕ) (n : ℕ) → p + 239 ≤ length old → Went ts (at ts k .to) best m sum (p + 1) (set old p k) out n
-      → ShownWalk goal ts k m p old out (n + 1)
-  show-walk p old out n h w =
-      let r : p < length old = omega arith in
-      let e : p + 1 + n ≡ p + (n + 1) = omega arith in
-      let f : take (p + 1) (set old p k) ≡ take p old ++ (k ∷ []) = rw (add-one p) (take-suc-set old p k r) in
-      let g : drop (p + 1 + n) (set old p k) ≡ drop (p + (n + 1)) old = rw e (drop-set-lt (p + (n + 1)) old p k (omega arith)) in
-      let l : List ℕ = w .rest ++ (m ∷ []) in
-      let q : take (p + 1) (set old p k) ++ (l ++ drop (p + 1 + n) (set old p k)) ≡ take p old ++ ((k ∷ l) ++ drop (p + (n + 1)) old) =
-      rw (f, g) (append-assoc (take p old) (k ∷ []) (l ++ drop (p + (n + 1)) old)) in
+  -- k right before the walk, and both written from place p on
+  show-walk : (p : ℕ) (old zeros back : List ℕ) (d n : ℕ) → length zeros ≡ 239 → length back ≡ 239 → Went ts (at ts k .to) best m sum 239 zeros back (d + 1)
+      → n + d ≡ 239 → ShownWalk goal ts k m p old (paste old p (drop d (set back d k)) n) n
+  show-walk p old zeros back d n l h w e =
+      let r : List ℕ = w .rest ++ (m ∷ []) in
+      let z : drop 239 zeros ≡ [] = rw (← l) (drop-length zeros) in
+      let t : drop (d + 1) back ≡ r = w .traced ∙ rw z (append-nil r) in
+      let f : drop d (set back d k) ≡ k ∷ r = store-before d (d + 1) back k refl (omega (arith, w .number)) ∙ rw t in
+      let c : length (k ∷ r) ≤ n = simp length-append (omega (arith, w .number)) in
       record {
         to = sum-ends (w .rest) (w .path) (w .whole) (w .late);
         number = omega (arith, w .number);
-        few = omega (arith, w .short, x .few);
-        traced = w .traced ∙ q;
+        few = omega arith;
+        traced = rw (f, take-all n (k ∷ r) c) (append-assoc (take p old) (k ∷ r) (drop (p + n) old));
       }
 
   -- with the transition and the number that the code has
@@ -328,8 +322,8 @@ module _ {goal : Goal} {ts : List Transition} {k m : ℕ} {best : List ℕ} {sum
     pub end-back : Back ts (first .to) best m sum
     end-back = rw (df .here) at (x .back)
 
-    pub end-shown : {i p : ℕ} {old out : List ℕ} {n : ℕ} → i ≡ k → p + 239 ≤ length old → Went ts (first .to) best m sum (p + 1) (set old p i) out n
-        → ShownWalk goal ts k m p old out (n + 1)
-    end-shown {i} {p} {old} {out} {n} di h w =
-        let v : Went ts (at ts k .to) best m sum (p + 1) (set old p k) out n = rw (df .here, ← di) w in
-        show-walk p old out n h v
+    pub end-shown : {i p : ℕ} {old zeros back : List ℕ} (d : ℕ) {n : ℕ} → i ≡ k → length zeros ≡ 239 → length back ≡ 239
+        → Went ts (first .to) best m sum 239 zeros back (d + 1) → n + d ≡ 239 → ShownWalk goal ts k m p old (paste old p (drop d (set back d i)) n) n
+    end-shown {i} {p} {old} {zeros} {back} d {n} di l h w e =
+        let v : Went ts (at ts k .to) best m sum 239 zeros back (d + 1) = rw (df .here) w in
+        rw di (show-walk p old zeros back d n l h v e)

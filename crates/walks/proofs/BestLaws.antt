@@ -193,11 +193,11 @@ module _ {ts : List Transition} {s : ℕ} where
               (eq-or-lt-of-le (omega arith));
         }
 
-  pub making-end : {best : List ℕ} {a i : ℕ} → i ≡ length ts → Making ts s best a i → Filled ts s best (a + 1)
-  making-end q m = filled-more (rw q at m)
+  pub making-end : {best : List ℕ} {a i : ℕ} → i ≡ length ts → Making ts s best a i → Roomy ts s best × Filled ts s best (a + 1)
+  making-end q m = (m .roomy, filled-more (rw q at m))
 
   -- a row that is a copy of the one before is in the making
-  module _ {old best : List ℕ} {p : ℕ} (z : Roomy ts s best) (h : p < 238) (f : Filled ts s old (p + 1)) (d : Copied old best p 32) where
+  module _ {old best : List ℕ} {p : ℕ} (z : Roomy ts s old) (h : p < 238) (f : Filled ts s old (p + 1)) (d : Copied old best p 32) where
     copy-old : (a e : ℕ) → a < p + 1 → e < 32 → cell best a e ≡ cell old a e
     copy-old a e k l = d .same (a * 32 + e) (omega arith)
 
@@ -208,7 +208,7 @@ module _ {ts : List Transition} {s : ℕ} where
     making-none =
         let r = f .row p (omega arith) in
         record {
-          roomy = z;
+          roomy = record { fine = z .fine; start = z .start; size = d .size ∙ z .size };
           low = omega arith;
           high = omega arith;
           done = record { row = λ a k. exact-same (λ e l. copy-old a e k l) (f .row a k) };
@@ -249,7 +249,7 @@ module _ {ts : List Transition} {s : ℕ} where
 
 -- copying a row
 pub copied-none : {best : List ℕ} {p : ℕ} → Copied best best p 0
-copied-none = record { same = λ k h. refl; here = λ e h. absurd (omega arith) }
+copied-none = record { same = λ k h. refl; here = λ e h. absurd (omega arith); size = refl }
 
 pub copied-more : {old best : List ℕ} {p i : ℕ} → p * 32 + 32 + i < length best → i < 32 → Copied old best p i
     → Copied old (set best (p * 32 + 32 + i) (getD best (p * 32 + i) 0)) p (i + 1)
@@ -261,6 +261,7 @@ copied-more {old} {best} {p} {i} room h d =
           (λ (q : e ≡ i). rw q (getD-set-same best (p * 32 + 32 + i) x 0 room ∙ d .same (p * 32 + i) (omega arith)))
           (λ (q : e < i). getD-set-other best (p * 32 + 32 + i) (p * 32 + 32 + e) x 0 (λ z. omega arith) ∙ d .here e q)
           (eq-or-lt-of-le (omega arith));
+      size = simp length-set (d .size);
     }
 
 pub copied-at : {old best : List ℕ} {p i : ℕ} → i ≡ 32 → Copied old best p i → Copied old best p 32
@@ -279,6 +280,6 @@ zeros-more {best} {i} room z =
           (eq-or-lt-of-le (omega arith));
     }
 
-pub first-set : {best : List ℕ} {i s : ℕ} → s < length best → 32 ≤ i → Zeros best i → First (set best s 1) s
-first-set {best} {i} {s} room l z =
-    record { one = getD-set-same best s 1 0 room; others = λ e h o. getD-set-other best s e 1 0 o ∙ z .zero e (omega arith) }
+pub first-set : {best : List ℕ} {i s : ℕ} → length best ≡ 7648 → s < 32 → 32 ≤ i → Zeros best i → First (set best s 1) s
+first-set {best} {i} {s} h k l z =
+    record { size = simp length-set h; one = getD-set-same best s 1 0 (omega arith); others = λ e h o. getD-set-other best s e 1 0 o ∙ z .zero e (omega arith) }

@@ -2,7 +2,7 @@
 use mathlib.Core.Path.{_≡_}
 use mathlib.Core.List.{List, [], _∷_, _++_}
 use Prim.Native.Nat.{ℕ, suc, _+_, _*_, _≤_, _<_}
-use lib.ListN.{getD, length, take, drop}
+use lib.ListN.{getD, length, drop}
 use Rattle.model.specs.Lists.{All}
 use Rattle.model.specs.Table.{Transition, InRange, at}
 use Rattle.model.specs.Trace.{Trace, steps}
@@ -51,6 +51,7 @@ pub record Making (ts : List Transition) (s : ℕ) (best : List ℕ) (a i : ℕ)
 pub record Copied (old best : List ℕ) (p i : ℕ) : Type 0 where
   pub same : (k : ℕ) → k < p * 32 + 32 → getD best k 0 ≡ getD old k 0
   pub here : (e : ℕ) → e < i → getD best (p * 32 + 32 + e) 0 ≡ getD old (p * 32 + e) 0
+  pub size : length best ≡ length old
 
 -- the first i numbers are 0
 pub record Zeros (best : List ℕ) (i : ℕ) : Type 0 where
@@ -58,6 +59,7 @@ pub record Zeros (best : List ℕ) (i : ℕ) : Type 0 where
 
 -- row 0 has s alone
 pub record First (best : List ℕ) (s : ℕ) : Type 0 where
+  pub size : length best ≡ 7648
   pub one : getD best s 0 ≡ 1
   pub others : (e : ℕ) → e < 32 → (e ≡ s → ⊥) → getD best e 0 ≡ 0
 
@@ -134,13 +136,14 @@ pub record EndSum (goal : Goal) (ts : List Transition) (k m : ℕ) (best : List 
   pub some : cell best (back .left) (at ts m .from) ≡ suc late
   pub meets : Meets goal (at ts k) (at ts m) sum (late + lateGap (at ts m))
 
--- from place p on stands a walk from s that ends with j, n steps, whose sum of u is `sum` and whose late sum before j is the number's;
--- the rest is as in old
-pub record Went (ts : List Transition) (s : ℕ) (best : List ℕ) (j sum p : ℕ) (old out : List ℕ) (n : ℕ) : Type 0 where
+-- right before place `to` stands a walk from s that ends with j, from place p on, whose sum of u is `sum` and whose late sum before j is the
+-- number's; behind it stands what stood there
+pub record Went (ts : List Transition) (s : ℕ) (best : List ℕ) (j sum to : ℕ) (old out : List ℕ) (p : ℕ) : Type 0 where
   pub rest : List ℕ
   pub path : Trace ts s rest (at ts j .from)
   pub whole : sum ≡ span (steps ts rest) .u + at ts j .u
   pub late : cell best (span (steps ts rest) .u) (at ts j .from) ≡ suc (lateSum (steps ts rest))
-  pub number : n ≡ length rest + 1
-  pub short : n ≤ sum
-  pub traced : out ≡ take p old ++ ((rest ++ (j ∷ [])) ++ drop (p + n) old)
+  pub number : to ≡ p + (length rest + 1)
+  pub short : length rest + 1 ≤ sum
+  pub traced : drop p out ≡ (rest ++ (j ∷ [])) ++ drop to old
+  pub size : length out ≡ length old

@@ -3,6 +3,7 @@ use crate::Found;
 use crate::soon::Soonest;
 use crate::soon::all_ends;
 use crate::soon::deeper;
+use crate::sums::Sums;
 use crate::sums::fill;
 use crate::sums::number;
 use crate::sums::row;
@@ -40,7 +41,7 @@ fn closes(goal: Goal, first: Row, last: Row, number: u32) -> bool
 }
 
 // Whether m ends a pair whose first step is k.
-fn ends_at(goal: Goal, cells: &Cells, count: usize, best: &[u32], k: usize, m: usize) -> bool
+fn ends_at(goal: Goal, cells: &Cells, count: usize, best: &Sums, k: usize, m: usize) -> bool
     requires { ⌜ Sound (now cells) count × (k < count) × (m < count) × ReadyFor goal (rows (now cells) count) k (now best) ⌝ }
     ensures { λ r. ⌜ Tells r (EndsIn goal (rows (now (cells .entry)) count) k m) ⌝ }
 {
@@ -58,7 +59,7 @@ fn ends_at(goal: Goal, cells: &Cells, count: usize, best: &[u32], k: usize, m: u
 }
 
 // The least transition that ends a pair whose first step is k.
-pub(crate) fn ends(goal: Goal, cells: &Cells, count: usize, best: &[u32], k: usize) -> Found
+pub(crate) fn ends(goal: Goal, cells: &Cells, count: usize, best: &Sums, k: usize) -> Found
     requires { ⌜ Sound (now cells) count × (k < count) × ReadyFor goal (rows (now cells) count) k (now best) ⌝ }
     ensures { λ r. ⌜ Least (EndsIn goal (rows (now (cells .entry)) count) k) r ⌝ }
 {
@@ -117,7 +118,7 @@ fn starts(
     cells: &Cells,
     count: usize,
     dist: &[u16; 32],
-    best: &[u32],
+    best: &Sums,
     s: usize,
     k: usize,
 ) -> bool
@@ -139,7 +140,7 @@ fn first_start(
     cells: &Cells,
     count: usize,
     dist: &[u16; 32],
-    best: &[u32],
+    best: &Sums,
     s: usize,
     low: usize,
 ) -> usize
@@ -163,13 +164,13 @@ fn lower(
     count: usize,
     dist: &[u16; 32],
     soon: Soonest,
-    best: &mut [u32],
+    best: &mut Sums,
     s: usize,
     low: usize,
 ) -> usize
     requires { ⌜ Sound (now cells) count × (low ≤ count) × (length (now best) ≡ 7648) × (s < 32)
         × Soon (rows (now cells) count) count soon ⌝ }
-    ensures { λ r. ⌜ LeastBelow (StartsAt goal (rows (now (cells .entry)) count) (now (dist .entry)) s) low r ⌝ }
+    ensures { λ r. ⌜ LeastBelow (StartsAt goal (rows (now (cells .entry)) count) (now (dist .entry)) s) low r × (length (now (best .exit)) ≡ 7648) ⌝ }
 {
     let n = depth(goal, cells, count, dist, soon, s, low);
     if n == 0 {
@@ -185,7 +186,7 @@ pub(crate) fn lowest_start(
     cells: &Cells,
     count: usize,
     dist: &[u16; 32],
-    best: &mut [u32],
+    best: &mut Sums,
 ) -> Found
     requires { ⌜ Sound (now cells) count × (length (now best) ≡ 7648) ⌝ }
     ensures { λ r. ⌜ Least (Starts goal (rows (now (cells .entry)) count) (now (dist .entry))) r ⌝ }

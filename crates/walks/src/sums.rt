@@ -7,7 +7,10 @@ ghost use lib.ListN.{length};
 ghost use Rattle.table.specs.Fit.{Sound};
 ghost use Rattle.table.specs.Rows.{rows, said};
 ghost use Rattle.walks.specs.Walks.{Seen};
-ghost use Rattle.walks.specs.Best.{cell, Filled, Making, Copied, First};
+ghost use Rattle.walks.specs.Best.{cell, Filled, Roomy, Making, Copied, First};
+
+// The numbers: 239 rows of 32.
+pub(crate) type Sums = [u32; 7648];
 
 // The transition at i of a sound table.
 pub(crate) fn row(cells: &Cells, count: usize, i: usize) -> Row
@@ -18,7 +21,7 @@ pub(crate) fn row(cells: &Cells, count: usize, i: usize) -> Row
 }
 
 // The number in a row at a state.
-pub(crate) fn number(best: &[u32], row: usize, state: usize) -> u32
+pub(crate) fn number(best: &Sums, row: usize, state: usize) -> u32
     requires { ⌜ (length (now best) ≡ 7648) × (row ≤ 238) × (state < 32) ⌝ }
     ensures { λ r. ⌜ r ≡ cell (now (best .entry)) row state ⌝ }
 {
@@ -26,7 +29,7 @@ pub(crate) fn number(best: &[u32], row: usize, state: usize) -> u32
 }
 
 // Row `at` with what transition i adds to it.
-fn improve(cells: &Cells, count: usize, s: usize, best: &mut [u32], at: usize, i: usize)
+fn improve(cells: &Cells, count: usize, s: usize, best: &mut Sums, at: usize, i: usize)
     requires { ⌜ Sound (now cells) count × (i < count) × Making (rows (now cells) count) s (now best) at i ⌝ }
     ensures { λ _. ⌜ Making (rows (now (cells .entry)) count) s (now (best .exit)) at (i + 1) ⌝ }
 {
@@ -48,9 +51,9 @@ fn improve(cells: &Cells, count: usize, s: usize, best: &mut [u32], at: usize, i
 }
 
 // Every transition for one row.
-fn sweep(cells: &Cells, count: usize, s: usize, best: &mut [u32], at: usize)
+fn sweep(cells: &Cells, count: usize, s: usize, best: &mut Sums, at: usize)
     requires { ⌜ Sound (now cells) count × Making (rows (now cells) count) s (now best) at 0 ⌝ }
-    ensures { λ _. ⌜ Filled (rows (now (cells .entry)) count) s (now (best .exit)) (at + 1) ⌝ }
+    ensures { λ _. ⌜ Roomy (rows (now (cells .entry)) count) s (now (best .exit)) × Filled (rows (now (cells .entry)) count) s (now (best .exit)) (at + 1) ⌝ }
 {
     // Never so in a sound table; said here, it need not be asked at every row read in the loop.
     if 256 < count {
@@ -64,7 +67,7 @@ fn sweep(cells: &Cells, count: usize, s: usize, best: &mut [u32], at: usize)
 }
 
 // Row p + 1 begins as row p.
-fn copy_row(best: &mut [u32], p: usize)
+fn copy_row(best: &mut Sums, p: usize)
     requires { ⌜ (p < 238) × (length (now best) ≡ 7648) ⌝ }
     ensures { λ _. ⌜ Copied (now (best .entry)) (now (best .exit)) p 32 ⌝ }
 {
@@ -77,7 +80,7 @@ fn copy_row(best: &mut [u32], p: usize)
 }
 
 // Row 0 has s alone.
-fn first(best: &mut [u32], s: usize)
+fn first(best: &mut Sums, s: usize)
     requires { ⌜ (s < 32) × (length (now best) ≡ 7648) ⌝ }
     ensures { λ _. ⌜ First (now (best .exit)) s ⌝ }
 {
@@ -90,9 +93,9 @@ fn first(best: &mut [u32], s: usize)
 }
 
 // The rows 0 to limit of the greatest late sums over walks from s.
-pub(crate) fn fill(cells: &Cells, count: usize, s: usize, best: &mut [u32], limit: usize)
+pub(crate) fn fill(cells: &Cells, count: usize, s: usize, best: &mut Sums, limit: usize)
     requires { ⌜ Sound (now cells) count × (s < 32) × (length (now best) ≡ 7648) × (limit ≤ 238) ⌝ }
-    ensures { λ _. ⌜ Filled (rows (now (cells .entry)) count) s (now (best .exit)) (limit + 1) ⌝ }
+    ensures { λ _. ⌜ Roomy (rows (now (cells .entry)) count) s (now (best .exit)) × Filled (rows (now (cells .entry)) count) s (now (best .exit)) (limit + 1) ⌝ }
 {
     first(best, s);
     let mut p: usize = 0;

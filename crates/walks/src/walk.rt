@@ -3,6 +3,7 @@ use crate::Found;
 use crate::search::ends;
 use crate::soon::all_ends;
 use crate::soon::rows_for;
+use crate::sums::Sums;
 use crate::sums::fill;
 use crate::sums::number;
 use crate::sums::row;
@@ -10,12 +11,16 @@ use criterion::Goal;
 use table::Cells;
 ghost use mathlib.Core.Path.{_≡_};
 ghost use Prim.Native.Nat.{_+_, _<_, _≤_};
-ghost use lib.ListN.{length};
+ghost use lib.ListN.{length, drop};
+ghost use lib.Seq.{paste};
 ghost use Rattle.model.specs.Answers.{Tells};
 ghost use Rattle.table.specs.Fit.{Sound};
 ghost use Rattle.table.specs.Rows.{rows};
 ghost use Rattle.walks.specs.Walks.{EndsIn, ShownWalk, ShownIfAny};
 ghost use Rattle.walks.specs.Best.{cell, asked, ReadyFor, Explains, Explained, LeastRow, Back, EndSum, Went};
+
+// Where a walk is walked back: k and at most 238 steps.
+type Walk = [u16; 239];
 
 fn low(x: usize) -> u16
     requires { ⌜ x < 65536 ⌝ }
@@ -35,7 +40,7 @@ fn enough_for(goal: Goal, x: u32) -> u32
 }
 
 // The least row whose number at state e is at least `enough`.
-fn least_row(best: &[u32], e: usize, top: usize, enough: u32) -> usize
+fn least_row(best: &Sums, e: usize, top: usize, enough: u32) -> usize
     requires { ⌜ (length (now best) ≡ 7648) × (top ≤ 238) × (e < 32) × (enough ≤ cell (now best) top e) ⌝ }
     ensures { λ a. ⌜ LeastRow (now (best .entry)) e top enough a ⌝ }
 {
@@ -50,7 +55,7 @@ fn least_row(best: &[u32], e: usize, top: usize, enough: u32) -> usize
 }
 
 // Whether transition j is the last step of a walk that gives the number in row a at e.
-fn explains(cells: &Cells, count: usize, best: &[u32], e: usize, a: usize, j: usize) -> bool
+fn explains(cells: &Cells, count: usize, best: &Sums, e: usize, a: usize, j: usize) -> bool
     requires { ⌜ Sound (now cells) count × (j < count) × (length (now best) ≡ 7648) × (a ≤ 238) × (e < 32) ⌝ }
     ensures { λ r. ⌜ Tells r (Explains (rows (now (cells .entry)) count) (now (best .entry)) e a j) ⌝ }
 {
@@ -74,7 +79,7 @@ fn explains(cells: &Cells, count: usize, best: &[u32], e: usize, a: usize, j: us
 }
 
 // A transition that explains the number in row a at e.
-fn explain(cells: &Cells, count: usize, best: &[u32], e: usize, a: usize) -> usize
+fn explain(cells: &Cells, count: usize, best: &Sums, e: usize, a: usize) -> usize
     requires { ⌜ Sound (now cells) count × (length (now best) ≡ 7648) × (a ≤ 238) × (e < 32) × Explained (rows (now cells) count) (now best) e a ⌝ }
     ensures { λ j. ⌜ (j < count) × Explains (rows (now (cells .entry)) count) (now (best .entry)) e a j ⌝ }
 {
@@ -88,36 +93,49 @@ fn explain(cells: &Cells, count: usize, best: &[u32], e: usize, a: usize) -> usi
     0
 }
 
-// The walk from s that ends with transition j, written from place `from` on: `sum` is the whole sum of lower bounds, j's own with it.
-// Each call writes its transition after the walk before it, which has a smaller sum. Where nothing is left j is the first step: the
-// one right after k, which the caller has written.
+// The walk from s that ends with transition j, written right before place `to`: `sum` is the whole sum of lower bounds, j's own with it.
+// Each call writes its transition and goes on with the walk before it, which has a smaller sum. The call is the last thing that is
+// done, so that no level of it needs stack. Answers the place of the first step: the one right after k.
 fn walk_back(
     cells: &Cells,
     count: usize,
     s: usize,
-    best: &[u32],
+    best: &Sums,
     j: usize,
     sum: usize,
-    trace: &mut [u16],
-    from: usize,
+    back: &mut Walk,
+    to: usize,
 ) -> usize
-    requires { ⌜ Sound (now cells) count × Back (rows (now cells) count) s (now best) j sum × (from + sum ≤ length (now trace)) ⌝ }
-    ensures { λ n. ⌜ Went (rows (now (cells .entry)) count) s (now (best .entry)) j sum from (now (trace .entry)) (now (trace .exit)) n ⌝ }
+    requires { ⌜ Sound (now cells) count × Back (rows (now cells) count) s (now best) j sum × (sum ≤ to) × (to ≤ 239) × (length (now back) ≡ 239) ⌝ }
+    ensures { λ p. ⌜ Went (rows (now (cells .entry)) count) s (now (best .entry)) j sum to (now (back .entry)) (now (back .exit)) p ⌝ }
 {
     let r = row(cells, count, j);
     let left = sum - r.u as usize;
+    let p = to - 1;
+    back[p] = low(j);
     if left == 0 {
-        trace[from] = low(j);
-        return 1;
+        return p;
     }
     let i = explain(cells, count, best, r.from as usize, left);
-    let n = walk_back(cells, count, s, best, i, left, trace, from);
-    trace[from + n] = low(j);
-    n + 1
+    walk_back(cells, count, s, best, i, left, back, p)
+}
+
+// What stands in `back` from place p on, written from place `from` on; answers the number of steps.
+fn put_walk(back: &Walk, p: usize, trace: &mut [u16], from: usize) -> usize
+    requires { ⌜ (length (now back) ≡ 239) × (p ≤ 239) × (from + 239 ≤ length (now trace)) ⌝ }
+    ensures { λ n. ⌜ (n + p ≡ 239) × (now (trace .exit) ≡ paste (now (trace .entry)) from (drop p (now (back .entry))) n) ⌝ }
+{
+    let n = 239 - p;
+    let mut i: usize = 0;
+    while i < n {
+        trace[from + i] = back[p + i];
+        i += 1;
+    }
+    n
 }
 
 // The whole sum of lower bounds of the walk from k to the end m that is walked back.
-fn end_sum(goal: Goal, cells: &Cells, count: usize, best: &[u32], k: usize, m: usize) -> usize
+fn end_sum(goal: Goal, cells: &Cells, count: usize, best: &Sums, k: usize, m: usize) -> usize
     requires { ⌜ Sound (now cells) count × (k < count) × ReadyFor goal (rows (now cells) count) k (now best) × EndsIn goal (rows (now cells) count) k m ⌝ }
     ensures { λ sum. ⌜ EndSum goal (rows (now (cells .entry)) count) k m (now (best .entry)) sum ⌝ }
 {
@@ -134,7 +152,7 @@ fn write_pair(
     goal: Goal,
     cells: &Cells,
     count: usize,
-    best: &[u32],
+    best: &Sums,
     k: usize,
     m: usize,
     trace: &mut [u16],
@@ -146,12 +164,14 @@ fn write_pair(
 {
     let s = row(cells, count, k).to as usize;
     let sum = end_sum(goal, cells, count, best, k, m);
-    trace[from] = low(k);
-    walk_back(cells, count, s, best, m, sum, trace, from + 1) + 1
+    let mut back = [0u16; 239];
+    let p = walk_back(cells, count, s, best, m, sum, &mut back, 239) - 1;
+    back[p] = low(k);
+    put_walk(&back, p, trace, from)
 }
 
 // The sums of the walks after k, as far as its ends are looked at.
-fn fill_for(goal: Goal, cells: &Cells, count: usize, k: usize, best: &mut [u32])
+fn fill_for(goal: Goal, cells: &Cells, count: usize, k: usize, best: &mut Sums)
     requires { ⌜ Sound (now cells) count × (k < count) × (length (now best) ≡ 7648) ⌝ }
     ensures { λ _. ⌜ ReadyFor goal (rows (now (cells .entry)) count) k (now (best .exit)) ⌝ }
 {
@@ -166,7 +186,7 @@ pub(crate) fn show(
     cells: &Cells,
     count: usize,
     k: usize,
-    best: &mut [u32],
+    best: &mut Sums,
     trace: &mut [u16],
     from: usize,
 ) -> usize

@@ -27,9 +27,6 @@ returns-3 c =
     let r = c .before .in-limits in
     λ x p. untold (r .result) (r .ensures) (not-true _ (c .if3 .taken)) (p .0)
 
-slice-aggregate-lowest-start : tie.Need-slice-aggregate-lowest-start
-slice-aggregate-lowest-start c = search needs
-
 lowest-start-requires : tie.Need-lowest-start-requires
 lowest-start-requires c κs =
     let r = c .before .before .in-limits in
@@ -37,9 +34,9 @@ lowest-start-requires c κs =
 
 returns-4 : tie.Need-returns-4
 returns-4 c =
-    let r = c .before .before .before .before .in-limits in
-    let l = c .before .lowest-start in
-    lowest-sound _ _ _ _ (told (r .result) (r .ensures) (not-false _ (c .before .before .before .if3 .left))) (l .result) (l .ensures)
+    let r = c .before .before .before .in-limits in
+    let l = c .lowest-start in
+    lowest-sound _ _ _ _ (told (r .result) (r .ensures) (not-false _ (c .before .before .if3 .left))) (l .result) (l .ensures)
 
 pub lowest-spec : {M : Type 1} → statement M
 lowest-spec =
@@ -50,6 +47,5 @@ lowest-spec =
     returns-2
     in-limits-requires
     returns-3
-    slice-aggregate-lowest-start
     lowest-start-requires
     returns-4)

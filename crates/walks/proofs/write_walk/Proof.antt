@@ -28,9 +28,6 @@ sub-if4 c = search needs
 returns-4 : tie.Need-returns-4
 returns-4 c = inr (λ p. omega (arith, p .room), refl, refl)
 
-slice-aggregate-show : tie.Need-slice-aggregate-show
-slice-aggregate-show c = search needs
-
 show-requires : tie.Need-show-requires
 show-requires c κs =
     let r = c .before .before .before .before .before .in-limits in
@@ -41,9 +38,9 @@ same-length c = search needs
 
 returns-5 : tie.Need-returns-5
 returns-5 c =
-    let r = c .before .before .before .before .before .before .before .before .before .in-limits in
-    let z = told (r .result) (r .ensures) (not-false _ (c .before .before .before .before .before .before .before .before .if2 .left)) in
-    walk-outcome _ z (omega arith) (omega arith) (c .before .before .before .show .ensures)
+    let r = c .before .before .before .before .before .before .before .before .in-limits in
+    let z = told (r .result) (r .ensures) (not-false _ (c .before .before .before .before .before .before .before .if2 .left)) in
+    walk-outcome _ z (omega arith) (omega arith) (c .before .before .show .ensures)
 
 pub write-walk-spec : {M : Type 1} → statement M
 write-walk-spec =
@@ -55,7 +52,6 @@ write-walk-spec =
     returns-3
     sub-if4
     returns-4
-    slice-aggregate-show
     show-requires
     same-length
     returns-5)

@@ -38,7 +38,7 @@ loop-again c =
 
 returns-2 : tie.Need-returns-2 Inv-loop μ-loop
 returns-2 c =
-    let a = c .before .before .before .args in
+    let a = c .before .before .args in
     least-none (λ x t. end-known (a .goal) t) (omega (arith, length-rows (a .cells .now) (a .count))) (c .before .loop .inv .1)
 
 pub ends-spec : {M : Type 1} → statement M

@@ -16,7 +16,7 @@ possible-requires c κs = search needs
 
 returns : tie.Need-returns
 returns c =
-    let s = c .before .before .before .before .before in
+    let s = c .before .before .before .before in
     let p = c .before .possible in
     let n = untold (p .result) (p .ensures) (not-true _ (c .if1 .taken)) in
     not-possible (s .args .goal) (s .args .k) (s .pre .3) (s .args .m) (c .before .before .before .row .ensures) (c .before .before .row2 .ensures) n
@@ -30,14 +30,14 @@ cast-number c = search needs
 number-requires : tie.Need-number-requires
 number-requires c κs =
     let l = c .before .before .before .before in
-    let s = l .before .before .before in
+    let s = l .before .before in
     number-there (s .args .goal) (s .args .k) (s .pre .3) (s .args .m) (l .before .row .ensures) (l .row2 .ensures) (c .before .most-before .ensures)
 
 closes-requires : tie.Need-closes-requires
 closes-requires c κs =
     let p = c .before .before .before .before in
     let l = p .before in
-    let s = l .before .before .before in
+    let s = l .before .before in
     let h = told (p .possible .result) (p .possible .ensures) (not-false _ (c .before .before .before .if1 .left)) in
     number-small (s .args .goal) (s .args .k) (s .pre .3) (s .args .m) (l .before .row .ensures) (l .row2 .ensures) (c .before .before .most-before .ensures)
     (c .number .ensures) h
@@ -45,7 +45,7 @@ closes-requires c κs =
 returns-2 : tie.Need-returns-2
 returns-2 c =
     let l = c .before .before .before .before .before .before in
-    let s = l .before .before .before in
+    let s = l .before .before in
     let e = end-law (s .args .goal) (s .args .k) (s .pre .3) (s .args .m) (l .before .row .ensures) (l .row2 .ensures)
     (c .before .before .before .most-before .ensures) (c .before .number .ensures) in
     tells-same (c .closes .result) e (c .closes .ensures)

@@ -20,7 +20,7 @@ loop-holds c = (omega arith, λ x h. absurd (omega arith))
 
 starts-requires : tie.Need-starts-requires Inv-loop μ-loop
 starts-requires c κs =
-    let s = c .before .before .before .pre in
+    let s = c .before .before .pre in
     (s .0, omega arith, ready-less (omega arith) (s .2))
 
 returns : tie.Need-returns Inv-loop μ-loop

@@ -11,7 +11,7 @@ depth-requires : tie.Need-depth-requires
 depth-requires c κs = search needs
 
 returns : tie.Need-returns
-returns c = deep-nothing (rw (c .if1 .taken) at (c .before .depth .ensures))
+returns c = (deep-nothing (rw (c .if1 .taken) at (c .before .depth .ensures)), c .before .before .pre .2)
 
 sub-fill : tie.Need-sub-fill
 sub-fill c = search needs
@@ -21,15 +21,11 @@ fill-requires c κs = search needs
 
 first-start-requires : tie.Need-first-start-requires
 first-start-requires c κs =
-    let d = c .before .before .before .before .before .before in
-    let s = d .before .before .pre in
-    let f = c .before .before .before .fill in
-    let z = roomy {best = f .last .1 .1 .1 .0} (s .0) (s .3) (omega (arith, f .kept .1 .1 .1 .0)) in
+    let d = c .before .before .before .before in
+    let s = d .before .pre in
+    let f = c .before .fill .ensures in
     let e : d .depth .result - 1 + 1 ≡ d .depth .result = omega arith in
-    (s .0, s .1, ready-at (d .depth .ensures) z (rw e at (f .ensures)))
-
-same-length : tie.Need-same-length
-same-length c = search needs
+    (s .0, s .1, ready-at (d .depth .ensures) (f .0) (rw e at (f .1)))
 
 returns-2 : tie.Need-returns-2
 returns-2 c = search needs
@@ -43,5 +39,4 @@ lower-spec =
     sub-fill
     fill-requires
     first-start-requires
-    same-length
     returns-2)

@@ -25,7 +25,7 @@ loop-holds c = (omega arith, refl, lowest-none)
 lower-requires : tie.Need-lower-requires Inv-loop μ-loop
 lower-requires c κs =
     let e = c .before .before .before in
-    let s = e .before .before .pre in
+    let s = e .before .pre in
     let l = c .before .before .loop .inv in
     (s .0, l .2 .within, omega (arith, s .1, l .1), c .before .loop-test .taken, e .all-ends .ensures)
 
@@ -37,23 +37,17 @@ loop-less c = search needs
 
 loop-again : tie.Need-loop-again Inv-loop μ-loop
 loop-again c =
-    let l = c .before .before .before .before .before .loop .inv in
-    let r = c .before .before .lower in
-    (omega arith, omega (arith, r .kept .1 .1 .1 .1 .1 .0, l .1), lowest-more (l .2) (r .ensures))
-
-same-length : tie.Need-same-length Inv-loop μ-loop
-same-length c = search needs
+    let l = c .before .before .before .loop .inv in
+    let r = c .lower in
+    (omega arith, omega (arith, r .ensures .1), lowest-more (l .2) (r .ensures .0))
 
 returns : tie.Need-returns Inv-loop μ-loop
 returns c =
-    lowest-at (c .before .before .before .before .before .pre .0 .ranged) (length-rows _ _) (omega arith) (c .before .before .loop .inv .2) (c .if1 .taken)
-
-same-length-2 : tie.Need-same-length-2 Inv-loop μ-loop
-same-length-2 c = search needs
+    lowest-at (c .before .before .before .before .pre .0 .ranged) (length-rows _ _) (omega arith) (c .before .before .loop .inv .2) (c .if1 .taken)
 
 returns-2 : tie.Need-returns-2 Inv-loop μ-loop
 returns-2 c =
-    lowest-nothing (c .before .before .before .before .before .pre .0 .ranged) (length-rows _ _) (omega arith) (c .before .before .loop .inv .2) (c .if1 .left)
+    lowest-nothing (c .before .before .before .before .pre .0 .ranged) (length-rows _ _) (omega arith) (c .before .before .loop .inv .2) (c .if1 .left)
 
 pub lowest-start-spec : {M : Type 1} → statement M
 lowest-start-spec =
@@ -67,7 +61,5 @@ lowest-start-spec =
     add-s
     loop-less
     loop-again
-    same-length
     returns
-    same-length-2
     returns-2)

@@ -17,7 +17,7 @@ returns c =
 
 ends-requires : tie.Need-ends-requires
 ends-requires c κs =
-    let s = c .before .before .before .pre in
+    let s = c .before .before .pre in
     let r = c .before .arrives in
     (s .0, s .1, ready-for (told (r .result) (r .ensures) (not-false _ (c .if1 .left))) (s .2))
 
@@ -35,7 +35,7 @@ returns-2 c =
 
 returns-3 : tie.Need-returns-3
 returns-3 c =
-    let a = c .before .before .before .before .before .before .args in
+    let a = c .before .before .before .before .before .args in
     let e = c .before .before .ends in
     λ q. least-not (EndsIn (a .goal) (rows (a .cells .now) (a .count)) (a .k)) (e .result) (e .ensures) (c .before .match .keys2) (q .after .m) (q .after .to)
 

@@ -9,13 +9,13 @@ use Rattle.walks.proofs.sums.copy_row.Statement.{statement}
 use Rattle.walks.proofs.sums.copy_row.Tie as tie
 
 abbrev Inv-loop : tie.InvT-loop
-Inv-loop best₀ p e₀ best e = (e ≤ 32) × (length best ≡ length best₀) × Copied best₀ best p e
+Inv-loop best₀ p e₀ best e = (e ≤ 32) × Copied best₀ best p e
 
 abbrev μ-loop : tie.MeasureT-loop
 μ-loop best₀ p e₀ best e = 32 - e
 
 loop-holds : tie.Need-loop-holds Inv-loop μ-loop
-loop-holds c = (omega arith, refl, copied-none)
+loop-holds c = (omega arith, copied-none)
 
 mul-x : tie.Need-mul-x Inv-loop μ-loop
 mul-x c = search needs
@@ -26,8 +26,8 @@ add-x c = search needs
 mul-x-2 : tie.Need-mul-x-2 Inv-loop μ-loop
 mul-x-2 c = search needs
 
-slice-read-x : tie.Need-slice-read-x Inv-loop μ-loop
-slice-read-x c = search needs
+element-copy-out-x : tie.Need-element-copy-out-x Inv-loop μ-loop
+element-copy-out-x c = search needs
 
 mul-best : tie.Need-mul-best Inv-loop μ-loop
 mul-best c = search needs
@@ -41,8 +41,8 @@ add-best-2 c = search needs
 mul-best-2 : tie.Need-mul-best-2 Inv-loop μ-loop
 mul-best-2 c = search needs
 
-slice-write-best : tie.Need-slice-write-best Inv-loop μ-loop
-slice-write-best c = search needs
+element-write-best : tie.Need-element-write-best Inv-loop μ-loop
+element-write-best c = search needs
 
 add-e : tie.Need-add-e Inv-loop μ-loop
 add-e c = search needs
@@ -52,13 +52,10 @@ loop-less c = search needs
 
 loop-again : tie.Need-loop-again Inv-loop μ-loop
 loop-again c =
-    (omega arith, simp length-set (omega arith), copied-more (omega arith) (omega arith) (c .before .before .loop .inv .2))
-
-same-length : tie.Need-same-length Inv-loop μ-loop
-same-length c = search needs
+    (omega arith, copied-more (omega arith) (omega arith) (c .before .before .loop .inv .1))
 
 returns : tie.Need-returns Inv-loop μ-loop
-returns c = copied-at (omega arith) (c .before .loop .inv .2)
+returns c = copied-at (omega arith) (c .before .loop .inv .1)
 
 pub copy-row-spec : {M : Type 1} → statement M
 copy-row-spec =
@@ -70,14 +67,13 @@ copy-row-spec =
     mul-x
     add-x
     mul-x-2
-    slice-read-x
+    element-copy-out-x
     mul-best
     add-best
     add-best-2
     mul-best-2
-    slice-write-best
+    element-write-best
     add-e
     loop-less
     loop-again
-    same-length
     returns)

@@ -4,13 +4,13 @@ use mathlib.Core.Path.{_≡_}
 use Prim.Native.Nat.{_+_, _≤_, _-_}
 use lib.ListN.{length}
 use Rattle.table.specs.Rows.{rows}
-use Rattle.walks.specs.Best.{Filled}
+use Rattle.walks.specs.Best.{Filled, Roomy}
 use Rattle.walks.proofs.BestLaws.{roomy, filled-first, making-none, filled-to}
 use Rattle.walks.proofs.sums.fill.Statement.{statement}
 use Rattle.walks.proofs.sums.fill.Tie as tie
 
 abbrev Inv-loop : tie.InvT-loop
-Inv-loop cells count s best₀ limit p₀ best p = (p ≤ limit) × (length best ≡ 7648) × Filled (rows cells count) s best (p + 1)
+Inv-loop cells count s best₀ limit p₀ best p = (p ≤ limit) × Roomy (rows cells count) s best × Filled (rows cells count) s best (p + 1)
 
 abbrev μ-loop : tie.MeasureT-loop
 μ-loop cells count s best₀ limit p₀ best p = limit - p
@@ -20,8 +20,9 @@ first-requires c κs = search needs
 
 loop-holds : tie.Need-loop-holds Inv-loop μ-loop
 loop-holds c =
-    let f = c .before .before .first in
-    (omega arith, omega (arith, f .kept .0), filled-first (c .before .before .before .before .before .pre .0 .ranged) (f .ensures))
+    let f = c .first .ensures in
+    let s = c .before .before .pre in
+    (omega arith, roomy (s .0) (s .1) (f .size), filled-first (s .0 .ranged) f)
 
 copy-row-requires : tie.Need-copy-row-requires Inv-loop μ-loop
 copy-row-requires c κs = search needs
@@ -31,10 +32,9 @@ add-sweep c = search needs
 
 sweep-requires : tie.Need-sweep-requires Inv-loop μ-loop
 sweep-requires c κs =
-    let s = c .before .before .before .before .before .before .before .before .before .before .before .before .pre in
-    let l = c .before .before .before .before .before .before .loop .inv in
-    let r = c .before .before .before .copy-row in
-    (s .0, making-none (roomy (s .0) (s .1) (omega (arith, r .kept .0))) (omega arith) (l .2) (r .ensures))
+    let s = c .before .before .before .before .before .before .before .pre in
+    let l = c .before .before .before .before .loop .inv in
+    (s .0, making-none (l .1) (omega arith) (l .2) (c .before .copy-row .ensures))
 
 add-p : tie.Need-add-p Inv-loop μ-loop
 add-p c = search needs
@@ -43,16 +43,10 @@ loop-less : tie.Need-loop-less Inv-loop μ-loop
 loop-less c = search needs
 
 loop-again : tie.Need-loop-again Inv-loop μ-loop
-loop-again c =
-    let r = c .before .before .sweep in
-    let l = c .before .before .before .before .before .before .before .before .before .loop .inv in
-    (omega arith, omega (arith, r .kept .1 .1 .1 .0, c .before .before .before .before .before .before .copy-row .kept .0, l .1), r .ensures)
-
-same-length : tie.Need-same-length Inv-loop μ-loop
-same-length c = search needs
+loop-again c = (omega arith, c .sweep .ensures .0, c .sweep .ensures .1)
 
 returns : tie.Need-returns Inv-loop μ-loop
-returns c = filled-to (omega arith) (c .before .loop .inv .2)
+returns c = (c .before .loop .inv .1, filled-to (omega arith) (c .before .loop .inv .2))
 
 pub fill-spec : {M : Type 1} → statement M
 fill-spec =
@@ -68,5 +62,4 @@ fill-spec =
     add-p
     loop-less
     loop-again
-    same-length
     returns)

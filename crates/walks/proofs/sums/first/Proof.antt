@@ -20,8 +20,8 @@ loop-holds c = (omega arith, refl, zeros-none)
 mul-best : tie.Need-mul-best Inv-loop μ-loop
 mul-best c = search needs
 
-slice-write-best : tie.Need-slice-write-best Inv-loop μ-loop
-slice-write-best c = search needs
+element-write-best : tie.Need-element-write-best Inv-loop μ-loop
+element-write-best c = search needs
 
 add-e : tie.Need-add-e Inv-loop μ-loop
 add-e c = search needs
@@ -35,14 +35,11 @@ loop-again c = (omega arith, simp length-set (omega arith), zeros-more (omega ar
 mul-best-2 : tie.Need-mul-best-2 Inv-loop μ-loop
 mul-best-2 c = search needs
 
-slice-write-best-2 : tie.Need-slice-write-best-2 Inv-loop μ-loop
-slice-write-best-2 c = search needs
-
-same-length : tie.Need-same-length Inv-loop μ-loop
-same-length c = search needs
+element-write-best-2 : tie.Need-element-write-best-2 Inv-loop μ-loop
+element-write-best-2 c = search needs
 
 returns : tie.Need-returns Inv-loop μ-loop
-returns c = first-set (omega arith) (omega arith) (c .before .loop .inv .2)
+returns c = first-set (omega arith) (omega arith) (omega arith) (c .before .loop .inv .2)
 
 pub first-spec : {M : Type 1} → statement M
 first-spec =
@@ -52,11 +49,10 @@ first-spec =
     μ-loop
     loop-holds
     mul-best
-    slice-write-best
+    element-write-best
     add-e
     loop-less
     loop-again
     mul-best-2
-    slice-write-best-2
-    same-length
+    element-write-best-2
     returns)

@@ -11,7 +11,7 @@ cast-u : tie.Need-cast-u
 cast-u c = search needs
 
 returns : tie.Need-returns
-returns c = skip-long (c .before .before .before .before .pre .2) (c .before .before .row .ensures) (c .if1 .taken)
+returns c = skip-long (c .before .before .before .pre .2) (c .before .before .row .ensures) (c .if1 .taken)
 
 cast-number : tie.Need-cast-number
 cast-number c = search needs
@@ -19,12 +19,9 @@ cast-number c = search needs
 number-requires : tie.Need-number-requires
 number-requires c κs = search needs
 
-same-length : tie.Need-same-length
-same-length c = search needs
-
 returns-2 : tie.Need-returns-2
 returns-2 c =
-    let m = c .before .before .before .before .before .before .before .before .pre .2 in
+    let m = c .before .before .before .before .before .before .before .pre .2 in
     skip-none m (c .before .before .before .before .before .before .row .ensures) (omega arith)
 
 cast-t : tie.Need-cast-t
@@ -35,19 +32,16 @@ late-gap-requires c κs = search needs
 
 add-y : tie.Need-add-y
 add-y c =
-    let m = c .before .before .before .before .before .before .before .before .before .before .pre .2 in
+    let m = c .before .before .before .before .before .before .before .before .before .pre .2 in
     let h = from-small m (c .before .before .before .before .before .before .before .before .row .ensures) (omega arith) in
     omega arith
 
 number-requires-2 : tie.Need-number-requires-2
 number-requires-2 c κs = search needs
 
-same-length-2 : tie.Need-same-length-2
-same-length-2 c = search needs
-
 returns-3 : tie.Need-returns-3
 returns-3 c =
-    let m = c .before .before .before .before .before .before .before .before .before .before .before .before .before .pre .2 in
+    let m = c .before .before .before .before .before .before .before .before .before .before .before .before .pre .2 in
     let t = c .before .before .before .before .before .before .before .before .before .before .before .row .ensures in
     skip-less m t (omega arith)
 
@@ -60,15 +54,12 @@ add-best c = search needs
 mul-best-2 : tie.Need-mul-best-2
 mul-best-2 c = search needs
 
-slice-write-best : tie.Need-slice-write-best
-slice-write-best c = search needs
-
-same-length-3 : tie.Need-same-length-3
-same-length-3 c = search needs
+element-write-best : tie.Need-element-write-best
+element-write-best c = search needs
 
 returns-4 : tie.Need-returns-4
 returns-4 c =
-    let m = c .before .before .before .before .before .before .before .before .before .before .before .before .before .pre .2 in
+    let m = c .before .before .before .before .before .before .before .before .before .before .before .before .pre .2 in
     let t = c .before .before .before .before .before .before .before .before .before .before .before .row .ensures in
     put-more m t (omega arith) (omega arith) (omega arith) (omega arith)
 
@@ -81,17 +72,14 @@ improve-spec =
     returns
     cast-number
     number-requires
-    same-length
     returns-2
     cast-t
     late-gap-requires
     add-y
     number-requires-2
-    same-length-2
     returns-3
     mul-best
     add-best
     mul-best-2
-    slice-write-best
-    same-length-3
+    element-write-best
     returns-4)

@@ -11,13 +11,13 @@ use Rattle.walks.proofs.sums.sweep.Statement.{statement}
 use Rattle.walks.proofs.sums.sweep.Tie as tie
 
 abbrev Inv-loop : tie.InvT-loop
-Inv-loop cells count s best₀ at i₀ best i = (i ≤ count) × (length best ≡ length best₀) × Making (rows cells count) s best at i
+Inv-loop cells count s best₀ at i₀ best i = (i ≤ count) × Making (rows cells count) s best at i
 
 abbrev μ-loop : tie.MeasureT-loop
 μ-loop cells count s best₀ at i₀ best i = count - i
 
 returns : tie.Need-returns Inv-loop μ-loop
-returns c = absurd (omega (arith, c .before .before .pre .0 .few))
+returns c = absurd (omega (arith, c .before .pre .0 .few))
 
 loop-holds : tie.Need-loop-holds Inv-loop μ-loop
 loop-holds c = search needs
@@ -34,13 +34,10 @@ loop-less c = search needs
 loop-again : tie.Need-loop-again Inv-loop μ-loop
 loop-again c = search needs
 
-same-length : tie.Need-same-length Inv-loop μ-loop
-same-length c = search needs
-
 returns-2 : tie.Need-returns-2 Inv-loop μ-loop
 returns-2 c =
-    let a = c .before .before .before .before .args in
-    making-end (omega (arith, length-rows (a .cells .now) (a .count))) (c .before .loop .inv .2)
+    let a = c .before .before .before .args in
+    making-end (omega (arith, length-rows (a .cells .now) (a .count))) (c .before .loop .inv .1)
 
 pub sweep-spec : {M : Type 1} → statement M
 sweep-spec =
@@ -54,5 +51,4 @@ sweep-spec =
     add-i
     loop-less
     loop-again
-    same-length
     returns-2)

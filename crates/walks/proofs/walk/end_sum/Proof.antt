@@ -12,21 +12,21 @@ use Rattle.walks.proofs.walk.end_sum.Tie as tie
 
 row-requires-2 : tie.Need-row-requires-2
 row-requires-2 c κs =
-    let s = c .before .before in
+    let s = c .before in
     let h = end-known (s .args .goal) (s .pre .3) in
     (s .pre .0, omega (arith, length-rows (s .args .cells .now) (s .args .count)))
 
 number-requires : tie.Need-number-requires
 number-requires c κs =
     let a = c .before in
-    let s = a .before .before .before .before in
+    let s = a .before .before .before in
     number-there (s .args .goal) (s .args .k) (s .pre .2) (s .args .m) (a .before .before .row .ensures) (a .before .row2 .ensures) (a .most-before .ensures)
 
 least-row-requires : tie.Need-least-row-requires
 least-row-requires c κs =
     let n = c .before in
     let a = n .before .before in
-    let s = a .before .before .before .before in
+    let s = a .before .before .before in
     let f = a .before .before .row .ensures in
     let l = a .before .row2 .ensures in
     let t = number-there (s .args .goal) (s .args .k) (s .pre .2) (s .args .m) f l (a .most-before .ensures) in
@@ -44,7 +44,7 @@ returns : tie.Need-returns
 returns c =
     let n = c .before .before .before in
     let a = n .before .before in
-    let s = a .before .before .before .before in
+    let s = a .before .before .before in
     let q = c .before .before .enough-for .ensures ∙ ap (asked (s .args .goal)) (n .number .ensures) in
     end-sum (s .args .goal) (s .pre .2) (s .pre .3) (a .before .before .row .ensures) (a .before .row2 .ensures) (a .most-before .ensures)
     (rw q at (c .before .least-row .ensures))

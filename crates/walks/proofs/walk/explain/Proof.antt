@@ -37,7 +37,7 @@ loop-again c =
     (omega arith, below-more _ (l .j) (l .inv .1) (untold _ (c .before .explains .ensures) (c .if1 .left)))
 
 returns-2 : tie.Need-returns-2 Inv-loop μ-loop
-returns-2 c = absurd (among-none (length-rows _ _) (omega arith) (c .before .loop .inv .1) (c .before .before .before .pre .4))
+returns-2 c = absurd (among-none (length-rows _ _) (omega arith) (c .before .loop .inv .1) (c .before .before .pre .4))
 
 pub explain-spec : {M : Type 1} → statement M
 explain-spec =

@@ -23,20 +23,15 @@ fill-requires : tie.Need-fill-requires
 fill-requires c κs =
     let n = c .before .before in
     let r = n .before .before in
-    let s = r .before .before .pre in
+    let s = r .before .pre in
     (s .0, r .row .ensures .fine .arrives, s .2, omega (arith, rows-most (r .row .ensures) (n .before .all-ends .ensures) (n .rows-for .ensures)))
-
-same-length : tie.Need-same-length
-same-length c = search needs
 
 returns : tie.Need-returns
 returns c =
-    let f = c .before .before .fill in
-    let n = c .before .before .before .before .before in
+    let f = c .fill .ensures in
+    let n = c .before .before .before in
     let r = n .before .before in
-    let s = r .before .before .pre in
-    let z = roomy {best = f .last .1 .1 .1 .0} (s .0) (r .row .ensures .fine .arrives) (omega (arith, f .kept .1 .1 .1 .0, s .2)) in
-    show-ready (r .row .ensures) (length-rows _ _) (n .before .all-ends .ensures) (n .rows-for .ensures) z (f .ensures)
+    show-ready (r .row .ensures) (length-rows _ _) (n .before .all-ends .ensures) (n .rows-for .ensures) (f .0) (f .1)
 
 pub fill-for-spec : {M : Type 1} → statement M
 fill-for-spec =
@@ -47,5 +42,4 @@ fill-for-spec =
     rows-for-requires
     cast-fill
     fill-requires
-    same-length
     returns)

@@ -35,7 +35,7 @@ loop-again c =
 
 returns-2 : tie.Need-returns-2 Inv-loop μ-loop
 returns-2 c =
-    let s = c .before .before .before in
+    let s = c .before .before in
     let l = c .before .loop in
     let e : l .a ≡ s .args .top = omega arith in
     record { within = omega arith; reaches = rw e (s .pre .3); least = l .inv .1 }

@@ -18,9 +18,9 @@ enum-known-m c = search needs
 
 write-pair-requires : tie.Need-write-pair-requires
 write-pair-requires c κs =
-    let s = c .before .before .before .before .before .before .before .before .before .before .before .before .before .pre in
+    let s = c .before .before .before .before .before .before .before .before .before .before .pre in
     let l = rw (c .before .before .before .m .given .1) at (c .before .before .before .before .before .ends .ensures) in
-    (s .0, s .1, c .before .before .before .before .before .before .before .before .before .fill-for .ensures, l .0, s .3)
+    (s .0, s .1, c .before .before .before .before .before .before .before .fill-for .ensures, l .0, s .3)
 
 enum-told : tie.Need-enum-told
 enum-told c = search needs
@@ -28,21 +28,15 @@ enum-told c = search needs
 same-length : tie.Need-same-length
 same-length c = search needs
 
-same-length-2 : tie.Need-same-length-2
-same-length-2 c = search needs
-
 returns : tie.Need-returns
 returns c =
     let e = c .before .before .before .before .before .before .before .before .ends .ensures in
     let l = rw (c .before .before .before .before .before .before .m .given .1) at e in
     inl (record { m = _; walk = c .before .before .write-pair .ensures; least = l .1 })
 
-same-length-3 : tie.Need-same-length-3
-same-length-3 c = search needs
-
 returns-2 : tie.Need-returns-2
 returns-2 c =
-    let a = c .before .before .before .before .before .before .before .before .before .before .args in
+    let a = c .before .before .before .before .before .before .before .args in
     let e = c .before .before .ends in
     let n = least-not (EndsIn (a .goal) (rows (a .cells .now) (a .count)) (a .k)) (e .result) (e .ensures) (c .before .match .keys2) in
     inr (λ t. n (t .m) (t .to), refl, refl)
@@ -57,7 +51,5 @@ show-spec =
     write-pair-requires
     enum-told
     same-length
-    same-length-2
     returns
-    same-length-3
     returns-2)

@@ -1,7 +1,8 @@
 use borrow.Author.Needs.{needs}
 use native.Mathlib.Omega.{arith}
-use mathlib.Core.Path.{_∙_}
-use lib.ListN.{length-set}
+use mathlib.Core.Path.{_≡_, refl}
+use Prim.Native.Nat.{_+_, _-_}
+use lib.ListN.{length, length-set}
 use Rattle.walks.proofs.BackLaws.{end-back, end-shown}
 use Rattle.walks.proofs.walk.write_pair.Statement.{statement}
 use Rattle.walks.proofs.walk.write_pair.Tie as tie
@@ -15,40 +16,39 @@ cast-s c = search needs
 end-sum-requires : tie.Need-end-sum-requires
 end-sum-requires c κs = search needs
 
+walk-back-requires : tie.Need-walk-back-requires
+walk-back-requires c κs =
+    let e = c .before .end-sum .ensures in
+    (c .before .before .before .before .before .pre .0, end-back e (c .before .before .before .row .ensures), omega (arith, e .few), omega arith, refl)
+
+sub-p : tie.Need-sub-p
+sub-p c = search needs
+
 low-requires : tie.Need-low-requires
 low-requires c κs = search needs
 
-mul-trace : tie.Need-mul-trace
-mul-trace c = let s = c .before .before .before .before .before .before in omega (arith, s .pre .4, s .good .1 .1 .1 .1 .1 .0)
+mul-back : tie.Need-mul-back
+mul-back c = search needs
 
-slice-write-trace : tie.Need-slice-write-trace
-slice-write-trace c = let s = c .before .before .before .before .before .before in omega (arith, s .pre .4)
+array-write-back : tie.Need-array-write-back
+array-write-back c = search needs
 
-add-walk-back : tie.Need-add-walk-back
-add-walk-back c = let s = c .before .before .before .before .before .before .before in omega (arith, s .pre .4, s .good .1 .1 .1 .1 .1 .0)
-
-walk-back-requires : tie.Need-walk-back-requires
-walk-back-requires c κs =
-    let s = c .before .before .before .before .before .before .before .pre in
-    let e = c .before .before .end-sum .ensures in
-    (s .0, end-back e (c .before .before .before .before .row .ensures), simp length-set (omega (arith, s .4, e .few)))
-
-add-result : tie.Need-add-result
-add-result c =
-    omega (arith, c .before .before .walk-back .ensures .short, c .before .before .before .before .before .end-sum .ensures .few)
+put-walk-requires : tie.Need-put-walk-requires
+put-walk-requires c κs =
+    let w = c .before .before .before .walk-back in
+    (simp length-set (w .ensures .size), omega (arith, w .ensures .number), omega (arith, c .before .before .before .before .before .before .before .before .before .pre .4))
 
 same-length : tie.Need-same-length
-same-length c =
-    let a = c .before .before .before .before .before .before .before .before .before .before .args in
-    let l = length-set (a .trace .now) (a .from) (c .before .before .before .before .low .result) in
-    c .before .before .walk-back .kept .1 .1 .1 .1 .1 .1 .0 ∙ l
+same-length c = search needs
 
 returns : tie.Need-returns
 returns c =
-    let s = c .before .before .before .before .before .before .before .before .before .before .pre in
-    let e = c .before .before .before .before .before .end-sum .ensures in
-    let r = c .before .before .before .before .before .before .before .row .ensures in
-    end-shown e r (c .before .before .before .before .low .ensures) (s .4) (c .before .before .walk-back .ensures)
+    let w = c .before .before .before .before .before .before .walk-back in
+    let q = c .before .before .put-walk .ensures in
+    let e = c .before .before .before .before .before .before .before .before .end-sum .ensures in
+    let d : w .result ≡ w .result - 1 + 1 = omega (arith, w .ensures .number, w .ensures .short, e .few) in
+    rw (q .1) (end-shown e (c .before .before .before .before .before .before .before .before .before .before .row .ensures) (w .result - 1)
+    (c .before .before .before .before .before .low .ensures) refl (w .ensures .size) (rw d at (w .ensures)) (omega arith))
 
 pub write-pair-spec : {M : Type 1} → statement M
 write-pair-spec =
@@ -57,11 +57,11 @@ write-pair-spec =
     row-requires
     cast-s
     end-sum-requires
-    low-requires
-    mul-trace
-    slice-write-trace
-    add-walk-back
     walk-back-requires
-    add-result
+    sub-p
+    low-requires
+    mul-back
+    array-write-back
+    put-walk-requires
     same-length
     returns)
