@@ -14,11 +14,11 @@ pub fn judge_trace_bytes(file: &[u8], trace: &[u8], stamps: &mut [u8]) -> OnTrac
     ensures { λ r. ⌜ JudgeTraceBytesOutcome (now (file .entry)) (now (trace .entry)) (now (stamps .entry))
         (traceFields (length (now (trace .entry)) / 2) r) (now (stamps .exit)) ⌝ }
 {
-    let a = table_file::read_table(file);
-    let read = a.answer;
-    if let Checked::Refused(r) = read {
+    let mut cells = [0u16; 1792];
+    let read = table_file::read_into(file, &mut cells);
+    let answer = read.answer;
+    if let Checked::Refused(r) = answer {
         return OnTrace::Refused(r);
     }
-    let t = a.table;
-    traces::judge_on(&t.cells, t.count, trace, stamps)
+    traces::judge_on(&cells, read.count, trace, stamps)
 }
