@@ -12,7 +12,7 @@ use lib.ListN.{length, take, drop, length-drop}
 use lib.Seq.{drop-drop}
 use Rattle.model.specs.Table.{Transition}
 use Rattle.wire.specs.Bytes.{le}
-use Rattle.wire.proofs.Bytes.{le-drop, le-part, le-halves}
+use Rattle.wire.proofs.Bytes.{le-drop, le-halves}
 use Rattle.table.specs.declared.Refusal.{Refusal}
 use Rattle.table.specs.declared.Refusal.the-variants.{Cut, Misplaced}
 use Rattle.table.specs.declared.Row.{Row}
@@ -108,25 +108,9 @@ module _ (l : List ℕ) (at : ℕ) where
   pub left-body : (e : ℕ) → e ≡ at + 18 → take (e - (at + 4)) (drop (at + 4) l) ≡ bodyIn 14 (drop at l)
   left-body e q = let n : e - (at + 4) ≡ 14 = omega arith in rw (n, drop-drop 4 at l)
 
-  -- a number of the record's body, by its place in the file
-  body-at : (j i : ℕ) → j + 2 ≤ 14 → i ≡ at + (4 + j) → le 2 (bodyIn 14 (drop at l)) j ≡ le 2 l i
-  body-at j i h e = le-part 2 (drop at l) 14 4 j h ∙ le-drop 2 l at (4 + j) i e
-
-  -- the record's key by four numbers
-  pub left-key : mixOf (le 4 l (at + 4)) (le 4 l (at + 8)) (le 4 l (at + 12)) (le 2 l (at + 16)) ≡ keyOf (said (rowIn (bodyIn 14 (drop at l))))
-  left-key =
-      rw (
-        body-at 0 (at + 4) (omega arith) (omega arith),
-        body-at 2 (at + 4 + 2) (omega arith) (omega arith),
-        body-at 4 (at + 8) (omega arith) (omega arith),
-        body-at 6 (at + 8 + 2) (omega arith) (omega arith),
-        body-at 8 (at + 12) (omega arith) (omega arith),
-        body-at 10 (at + 12 + 2) (omega arith) (omega arith),
-        body-at 12 (at + 16) (omega arith) (omega arith),
-        le-halves l (at + 4),
-        le-halves l (at + 8),
-        le-halves l (at + 12),
-      )
+-- the key of a body by four numbers
+pub body-key : (body : List ℕ) → mixOf (le 4 body 0) (le 4 body 4) (le 4 body 8) (le 2 body 12) ≡ keyOf (said (rowIn body))
+body-key body = rw (le-halves body 0, le-halves body 4, le-halves body 8)
 
 -- what the record must have been, given the answer
 pub data FrameSays (rest : List ℕ) : Frame → Type 0 where

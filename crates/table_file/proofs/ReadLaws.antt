@@ -8,7 +8,7 @@ use Prim.Native.Nat.{ℕ, zero, suc, _+_, _*_, _-_, _≤_, _<_}
 use native.Mathlib.Omega.{arith}
 use borrow.Author.Tests.{le-leb, lt-leb}
 use lib.Dec.{ltb}
-use lib.ListN.{length, drop, length-drop}
+use lib.ListN.{length, take, drop, length-drop}
 use lib.Seq.{drop-drop}
 use Rattle.model.specs.Table.{Transition}
 use Rattle.table.specs.declared.Refusal.{Refusal}
@@ -25,14 +25,14 @@ use Rattle.table.specs.Refusal.{refusalNumber, refusalPlace, checkedFields}
 use Rattle.table.specs.Rows.{said, listed, putRow, putAt, putAll}
 use Rattle.table.specs.Check.{inRange, has}
 use Rattle.table.specs.Seen.{keyOf, suspect, noted, Marked}
-use Rattle.table_file.specs.File.{headIn, readFile, machine, stopped, Scan, answerOf, given, IntoOutcome, frameIn, Listed, found, refused}
+use Rattle.table_file.specs.File.{headIn, readFile, machine, stopped, Scan, answerOf, given, IntoOutcome, bodyIn, rowIn, frameIn, Listed, found, refused}
 use Rattle.table_file.specs.File.{onCounted, ended, onChecked, admission, admitted, rowsFrom, finishOf}
 use Rattle.table_file.specs.Records.{recordAt, recorded, admitOf, Next, Admitted, RowsOutcome, Scanned}
 use Rattle.table.proofs.RefusalLaws.{refusal-some}
 use Rattle.table.proofs.RowLaws.{put-near, length-listed, listed-more}
 use Rattle.table.proofs.SeenLaws.{marked-listed, marked-not, marked-next}
 use Rattle.table.proofs.CellLaws.{put-none, put-more}
-use Rattle.table_file.proofs.FrameLaws.{took-says}
+use Rattle.table_file.proofs.FrameLaws.{took-says, left-body}
 
 -- one record decides the next step of the scan
 module _ (states at : ℕ) (rest : List ℕ) (ts : List Transition) where
@@ -121,7 +121,7 @@ module _ (states at n : ℕ) (met : Bool) (t : Transition) where
   admit-full-says x h e = let f : Refused x ≡ Refused (Full at) = e ∙ sym (admit-full h) in cc
 
 -- the ways out of the test of one transition
-module _ (l : List ℕ) (states at n : ℕ) (t : Row) {seen : List ℕ} (next : Next l seen n t) (seen' : List ℕ) where
+module _ (l : List ℕ) (states at n : ℕ) (t : Row) {seen : List ℕ} (next : Next l seen n at t) (seen' : List ℕ) where
   refusal-marks : {r : Refusal} → Refused r ≡ Sound → Marked seen' (recorded l (n + 1))
   refusal-marks e = let z : _≡_ {A = ℕ} 0 1 = cc in absurd (omega arith)
 
@@ -136,9 +136,12 @@ module _ (l : List ℕ) (states at n : ℕ) (t : Row) {seen : List ℕ} (next : 
       pub admitted-twin : has (said t) (recorded l n) ≡ true → Admitted l states at n t (Refused (Repeated at)) seen'
       admitted-twin m = record { answers = rw (admit-is states at n (has (said t) (recorded l n)) (said t) h, r, m); marks = refusal-marks }
 
-      module _ {key : ℕ} (k : key ≡ keyOf (said (recordAt l n))) (s : seen' ≡ noted seen key) where
+      module _ {key : ℕ} (k : key ≡ keyOf (said (rowIn (take (at + 18 - (at + 4)) (drop (at + 4) l))))) (s : seen' ≡ noted seen key) where
         own : key ≡ keyOf (said t)
-        own = k ∙ ap (λ (r : Row). keyOf (said r)) (sym (next .is))
+        own =
+            let p : 8 + n * 18 ≡ at = sym (next .place) in
+            let i : t ≡ rowIn (bodyIn 14 (drop at l)) = rw p at (next .is) in
+            k ∙ ap (λ (b : List ℕ). keyOf (said (rowIn b))) (left-body l at (at + 18) refl) ∙ ap (λ (r : Row). keyOf (said r)) (sym i)
 
         pub admitted-new : has (said t) (recorded l n) ≡ false → Admitted l states at n t Sound seen'
         admitted-new m = record {

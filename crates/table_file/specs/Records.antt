@@ -30,10 +30,11 @@ recorded l n = listed (λ i. said (recordAt l i)) n
 unfoldable pub admitOf : ℕ → ℕ → ℕ → Bool → Transition → Checked
 admitOf states offset n met t = cond (leb 256 n) (Refused (Full offset)) (admission states offset met t)
 
--- record n holds t, and those before it are marked
-pub record Next (l seen : List ℕ) (n : ℕ) (t : Row) : Type 0 where
+-- record n holds t and begins at the offset, and those before it are marked
+pub record Next (l seen : List ℕ) (n offset : ℕ) (t : Row) : Type 0 where
   pub few : n ≤ 256
-  pub inside : 8 + n * 18 + 18 ≤ length l
+  pub place : offset ≡ 8 + n * 18
+  pub inside : offset + 18 ≤ length l
   pub is : t ≡ recordAt l n
   pub marked : Marked seen (recorded l n)
 

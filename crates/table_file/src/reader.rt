@@ -144,23 +144,21 @@ fn has_record(file: &[u8], n: usize, t: Row) -> bool
     false
 }
 
-// The key of the transition in record n, by few and wide reads.
-fn key_at(file: &[u8], n: usize) -> u64
-    requires { ⌜ 8 + n * 18 + 18 ≤ length (now file) ⌝ }
-    ensures { λ k. ⌜ k ≡ keyOf (said (recordAt (now (file .entry)) n)) ⌝ }
+// The key of the transition in a body, by few and wide reads.
+fn key_in(body: &[u8]) -> u64
+    ensures { λ k. ⌜ k ≡ keyOf (said (rowIn (now (body .entry)))) ⌝ }
 {
-    let at = 8 + n * 18;
     mixed(
-        wire::four(file, at + 4),
-        wire::four(file, at + 8),
-        wire::four(file, at + 12),
-        wire::two(file, at + 16),
+        wire::four(body, 0),
+        wire::four(body, 4),
+        wire::four(body, 8),
+        wire::two(body, 12),
     )
 }
 
 // 3, 4, 5 of the transition in record n. Marks tell it from nearly all before it; what they leave open the file tells.
 fn admit(file: &[u8], seen: &mut Seen, states: u16, n: usize, at: usize, t: Row) -> Checked
-    requires { ⌜ Next (now file) (now seen) n t ⌝ }
+    requires { ⌜ Next (now file) (now seen) n at t ⌝ }
     ensures { λ a. ⌜ Admitted (now (file .entry)) states at n t a (now (seen .exit)) ⌝ }
 {
     if 256 <= n {
@@ -169,7 +167,7 @@ fn admit(file: &[u8], seen: &mut Seen, states: u16, n: usize, at: usize, t: Row)
     if !in_range(states, t) {
         return Checked::Refused(Refusal::OutOfRange(at));
     }
-    if mark(seen, key_at(file, n)) {
+    if mark(seen, key_in(&file[at + 4..at + 18])) {
         if has_record(file, n, t) {
             return Checked::Refused(Refusal::Repeated(at));
         }

@@ -29,7 +29,8 @@ returns c =
     let q = p .before .before .before in
     let s = q .before .before .before .before .before .before .before .before in
     let a = s .args in
-    no-trace (heldIn (a .read) (a .cells .now)) (s .pre) (a .trace .now) (a .starts .now) (a .stamps .now) (a .order .now) (a .due .now) (a .marks .now) (q .twos-in .ensures) (search needs)
+    let t = heldIn (a .read) (a .cells .now) in
+    no-trace t (s .pre) (a .trace .now) (a .starts .now) (a .stamps .now) (a .order .now) (a .due .now) (a .marks .now) (q .twos-in .ensures) (search needs)
     (untold (p .is-trace .result) (p .is-trace .ensures) (not-true _ (c .if1 .taken)))
 
 measured-requires : tie.Need-measured-requires
@@ -38,7 +39,8 @@ measured-requires c κs =
     let q = p .before .before .before in
     let s = q .before .before .before .before .before .before .before .before in
     let a = s .args in
-    most (heldIn (a .read) (a .cells .now)) (s .pre) (a .trace .now) (a .starts .now) (a .stamps .now) (a .order .now) (a .due .now) (a .marks .now) (q .twos-in .ensures) (search needs)
+    let t = heldIn (a .read) (a .cells .now) in
+    most t (s .pre) (a .trace .now) (a .starts .now) (a .stamps .now) (a .order .now) (a .due .now) (a .marks .now) (q .twos-in .ensures) (search needs)
     (told (p .is-trace .result) (p .is-trace .ensures) (not-false _ (c .before .before .before .if1 .left)))
 
 enum-known-r : tie.Need-enum-known-r
@@ -59,7 +61,8 @@ returns-2 c =
     let q = p .before .before .before in
     let s = q .before .before .before .before .before .before .before .before in
     let a = s .args in
-    no-size (heldIn (a .read) (a .cells .now)) (s .pre) (a .trace .now) (a .starts .now) (a .stamps .now) (a .order .now) (a .due .now) (a .marks .now) (q .twos-in .ensures) (search needs)
+    let t = heldIn (a .read) (a .cells .now) in
+    no-size t (s .pre) (a .trace .now) (a .starts .now) (a .stamps .now) (a .order .now) (a .due .now) (a .marks .now) (q .twos-in .ensures) (search needs)
     (told (p .is-trace .result) (p .is-trace .ensures) (not-false _ (c .before .before .before .before .before .before .before .if1 .left))) (c .before .r .given .1) (c .before .before .before .measured .ensures)
 
 enum-told : tie.Need-enum-told
@@ -77,9 +80,10 @@ play-all-requires c κs =
     let q = p .before .before .before in
     let s = q .before .before .before .before .before .before .before .before in
     let a = s .args in
-    lends (heldIn (a .read) (a .cells .now)) (s .pre) (a .trace .now) (a .starts .now) (a .stamps .now) (a .order .now) (a .due .now) (a .marks .now) (q .twos-in .ensures) (search needs)
+    let t = heldIn (a .read) (a .cells .now) in
+    lends t (s .pre) (a .trace .now) (a .starts .now) (a .stamps .now) (a .order .now) (a .due .now) (a .marks .now) (q .twos-in .ensures) (search needs)
     (told (p .is-trace .result) (p .is-trace .ensures) (not-false _ (c .before .before .before .before .before .before .before .before .before .before .if1 .left)))
-    (fits (heldIn (a .read) (a .cells .now)) (s .pre) (a .trace .now) (a .starts .now) (a .stamps .now) (a .order .now) (a .due .now) (a .marks .now) (q .twos-in .ensures) (search needs)
+    (fits t (s .pre) (a .trace .now) (a .starts .now) (a .stamps .now) (a .order .now) (a .due .now) (a .marks .now) (q .twos-in .ensures) (search needs)
     (told (p .is-trace .result) (p .is-trace .ensures) (not-false _ (c .before .before .before .before .before .before .before .before .before .before .if1 .left))) (c .before .before .before .before .enum-told .given .1) (c .before .before .before .before .before .before .measured .ensures))
 
 same-length-4 : tie.Need-same-length-4
@@ -97,9 +101,10 @@ returns-3 c =
     let q = p .before .before .before in
     let s = q .before .before .before .before .before .before .before .before in
     let a = s .args in
-    all-written (heldIn (a .read) (a .cells .now)) (s .pre) (a .trace .now) (a .starts .now) (a .stamps .now) (a .order .now) (a .due .now) (a .marks .now) (q .twos-in .ensures) (search needs)
+    let t = heldIn (a .read) (a .cells .now) in
+    all-written t (s .pre) (a .trace .now) (a .starts .now) (a .stamps .now) (a .order .now) (a .due .now) (a .marks .now) (q .twos-in .ensures) (search needs)
     (told (p .is-trace .result) (p .is-trace .ensures) (not-false _ (c .before .before .before .before .before .before .before .before .before .before .before .before .before .before .before .before .before .if1 .left)))
-    (fits (heldIn (a .read) (a .cells .now)) (s .pre) (a .trace .now) (a .starts .now) (a .stamps .now) (a .order .now) (a .due .now) (a .marks .now) (q .twos-in .ensures) (search needs)
+    (fits t (s .pre) (a .trace .now) (a .starts .now) (a .stamps .now) (a .order .now) (a .due .now) (a .marks .now) (q .twos-in .ensures) (search needs)
     (told (p .is-trace .result) (p .is-trace .ensures) (not-false _ (c .before .before .before .before .before .before .before .before .before .before .before .before .before .before .before .before .before .if1 .left))) (c .before .before .before .before .before .before .before .before .before .before .before .enum-told .given .1) (c .before .before .before .before .before .before .before .before .before .before .before .before .before .measured .ensures))
     (λ i. q .before .before .before .before .slice-known .given i .fits) (λ i. q .before .before .before .slice-known2 .given i .fits)
     (λ i. c .before .before .before .before .slice-known4 .given i .fits) (λ i. c .before .before .slice-known5 .given i .fits)

@@ -19,7 +19,8 @@ returns-2 c =
     let p = c .before .before .before .before .before .before in
     let e = p .before .before .before .before .before .before in
     let r = e .before .before in
-    rw (into-read _ (r .read-into .ensures) (λ i. r .before .before .before .before .shared-slice-known .given i .fits) refl (e .enum-told .given .1)) (p .judge-on .ensures)
+    let k = r .before .before .before .before .shared-slice-known in
+    rw (into-read _ (r .read-into .ensures) (λ i. k .given i .fits) refl (e .enum-told .given .1)) (p .judge-on .ensures)
 
 pub judge-table-bytes-spec : {M : Type 1} → statement M
 judge-table-bytes-spec =

@@ -28,7 +28,7 @@ ranged p = sym (p .before .in-range .ensures) ∙ not-false _ (p .if2 .left)
 
 returns-3 : tie.Need-returns-3
 returns-3 c =
-    let p = c .before .before .before .before .before .before in
+    let p = c .before .before .before .before .before .before .before in
     let s = p .before .before .before .before in
     let a = s .args in
     admitted-twin (a .file .now) (a .states) (a .at) (a .n) (a .t) (s .pre) _ (p .before .before .if1 .left) (ranged p)
@@ -37,20 +37,20 @@ returns-3 c =
 returns-4 : tie.Need-returns-4
 returns-4 c =
     let m = c .before .before .before in
-    let p = m .before .before .before in
+    let p = m .before .before .before .before in
     let s = p .before .before .before .before in
     let a = s .args in
     admitted-new (a .file .now) (a .states) (a .at) (a .n) (a .t) (s .pre) _ (p .before .before .if1 .left) (ranged p)
-    (m .before .key-at .ensures) (m .mark .ensures .1) (sym (c .before .has-record .ensures) ∙ c .if4 .left)
+    (m .before .key-in .ensures) (m .mark .ensures .1) (sym (c .before .has-record .ensures) ∙ c .if4 .left)
 
 returns-5 : tie.Need-returns-5
 returns-5 c =
     let m = c .before in
-    let p = m .before .before .before in
+    let p = m .before .before .before .before in
     let s = p .before .before .before .before in
     let a = s .args in
     admitted-unmarked (a .file .now) (a .states) (a .at) (a .n) (a .t) (s .pre) _ (p .before .before .if1 .left) (ranged p)
-    (m .before .key-at .ensures) (m .mark .ensures .1) (m .mark .ensures .0) (c .if3 .left)
+    (m .before .key-in .ensures) (m .mark .ensures .1) (m .mark .ensures .0) (c .if3 .left)
 
 pub admit-spec : {M : Type 1} → statement M
 admit-spec =
@@ -59,6 +59,11 @@ admit-spec =
     returns
     (λ c κs. search needs)
     returns-2
+    (λ c. search needs)
+    (λ c. search needs)
+    (λ c. search needs)
+    (λ c. search needs)
+    (λ c. search needs)
     (λ c κs. search needs)
     (λ c κs. search needs)
     (λ c κs. search needs)

@@ -73,7 +73,7 @@ admit-requires : tie.Need-admit-requires Inv-loop μ-loop
 admit-requires c κs =
     let l = c .before .before .before .before .before .loop in
     let t = took (c .before .before) in
-    record { few = t .few; inside = omega (arith, t .inside, l .inv .0 .place); is = t .row; marked = l .inv .1 }
+    record { few = t .few; place = l .inv .0 .place; inside = t .inside; is = t .row; marked = l .inv .1 }
 
 enum-known-a : tie.Need-enum-known-a Inv-loop μ-loop
 enum-known-a c = search needs
