@@ -117,7 +117,7 @@ extern "C" {
 /* Bytes of stack: each call uses less. Not counted are some KB that the system's loader takes at a first call in a program
  * that binds its functions late (linked without -z now). */
 #define SANDGUSSET_STACK_JUDGE 69632
-#define SANDGUSSET_STACK_ORDER 40960
+#define SANDGUSSET_STACK_ORDER 59392
 #define SANDGUSSET_STACK_JUDGE_TRACE 24576
 #define SANDGUSSET_STACK_REPLAY 17408
 #define SANDGUSSET_STACK_REPLAY_WORDS 17408

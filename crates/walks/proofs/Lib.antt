@@ -2,6 +2,5 @@ pub mod WalkLaws
 pub mod BestLaws
 pub mod SoonLaws
 pub mod EndLaws
-pub mod NeighbourLaws
 pub mod BackLaws
 pub mod OutcomeLaws

@@ -1,15 +1,14 @@
 -- Laws of the ends that are due soonest.
 use mathlib.Core.Path.{_≡_, refl, sym, _∙_}
-use mathlib.Core.Logic.{_⊎_, by-cases}
+use mathlib.Core.Logic.{by-cases}
 use mathlib.Core.List.{List}
 use Prim.Native.Nat.{ℕ, _+_, _-_, _≤_, _<_}
 use native.Mathlib.Omega.{arith}
 use native.Mathlib.Decide.{decLt, ℕ-discrete}
 use borrow.Author.Count.{below-more}
-use lib.ListN.{length}
 use Rattle.model.specs.Table.{Transition, at}
 use Rattle.model.specs.Order.{Differ}
-use Rattle.model.specs.Criterion.{Above, slack}
+use Rattle.model.specs.Criterion.{slack}
 use Rattle.model.proofs.CriterionLaws.{slack-none, slack-under}
 use Rattle.table.specs.declared.Row.{Row}
 use Rattle.table.specs.Rows.{said}

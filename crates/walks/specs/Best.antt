@@ -12,7 +12,7 @@ use Rattle.model.specs.Criterion.{slack}
 use Rattle.criterion.specs.declared.Goal.{Goal}
 use Rattle.criterion.specs.declared.Goal.the-variants.{Turns, Overtakes}
 use Rattle.criterion.specs.Goals.{Meets, Possible}
-use Rattle.walks.specs.Walks.{Walk, Arrives, Among}
+use Rattle.walks.specs.Walks.{Walk, Among}
 
 -- the number in row a at state e
 abbrev pub cell : List ℕ → ℕ → ℕ → ℕ
@@ -79,15 +79,6 @@ pub record Ready (goal : Goal) (ts : List Transition) (s k : ℕ) (best : List �
 -- rows enough for what follows transition k
 abbrev pub ReadyFor : Goal → List Transition → ℕ → List ℕ → Type 0
 ReadyFor goal ts k best = Ready goal ts (at ts k .to) k best
-
--- rows enough for every transition among the first n that arrives in s
-pub record ReadyAt (goal : Goal) (ts : List Transition) (dist : List ℕ) (s n : ℕ) (best : List ℕ) : Type 0 where
-  pub ready : (k : ℕ) → k < n → Arrives ts dist s k → Ready goal ts s k best
-
--- r rows are enough for every possible end of a pair whose first step is among the first i transitions and arrives in s
-pub record Deep (goal : Goal) (ts : List Transition) (dist : List ℕ) (s i r : ℕ) : Type 0 where
-  pub most : r ≤ 239
-  pub covers : (k : ℕ) → k < i → Arrives ts dist s k → (m : ℕ) → m < length ts → Possible goal (at ts k) (at ts m) → slack (at ts k) (at ts m) < r
 
 -- transition j is the last step of a walk that gives the number in row a at e
 pub record Explains (ts : List Transition) (best : List ℕ) (e a j : ℕ) : Type 0 where

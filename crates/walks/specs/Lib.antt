@@ -1,4 +1,3 @@
 pub mod Walks
-pub mod Neighbours
 pub mod Soon
 pub mod Best

@@ -1,6 +1,4 @@
 -- The ends that are due soonest after the step before them.
-use mathlib.Core.Path.{_≡_}
-use mathlib.Core.Logic.{_⊎_}
 use mathlib.Core.List.{List}
 use Prim.Native.Nat.{ℕ, _+_, _≤_, _<_}
 use Rattle.model.specs.Table.{Transition, at}
@@ -36,11 +34,3 @@ pub record Asks (goal : Goal) (k : Transition) (s : Soonest) (r : ℕ) : Type 0 
 pub record RowsFor (goal : Goal) (k : Transition) (s : Soonest) (r : ℕ) : Type 0 where
   pub covers : (t : Transition) → Bounds s t → Possible goal k t → slack k t < r
   pub most : (x : ℕ) → x ≤ s .first → x ≤ s .second → x ≤ k .d → r + x ≤ k .d
-
--- r is the greater of `top` and the rows for k
-pub record Deeper (goal : Goal) (k : Transition) (s : Soonest) (top r : ℕ) : Type 0 where
-  pub rows : ℕ
-  pub asked : RowsFor goal k s rows
-  pub more : top ≤ r
-  pub enough : rows ≤ r
-  pub one : (r ≡ top) ⊎ (r ≡ rows)

@@ -61,12 +61,6 @@ Least P Nothing = (x : ℕ) → P x → ⊥
 abbrev pub LowestStart : Goal → List ℕ → ℕ → List ℕ → Found → Type 0
 LowestStart goal cells count dist r = Least (λ k. Sound cells count × Starts goal (rows cells count) dist k) r
 
--- r is the least number below n of which P holds, or n where there is none
-pub record LeastBelow (P : ℕ → Type 0) (n r : ℕ) : Type 0 where
-  pub within : r ≤ n
-  pub found : r < n → P r
-  pub before : (x : ℕ) → x < r → P x → ⊥
-
 -- some number below n of which P holds
 pub record Among (P : ℕ → Type 0) (n : ℕ) : Type 0 where
   pub x : ℕ

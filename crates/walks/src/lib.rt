@@ -1,9 +1,8 @@
-// The walks of a table with their sums: which transition starts a pair of what is asked, and the walk to its end.
+// The walks of a table with their sums: the walk from the first step of a pair of what is asked to its end.
 use criterion::Goal;
 use table::Cells;
-ghost use Rattle.walks.specs.Walks.{LowestStart, WalkOutcome};
+ghost use Rattle.walks.specs.Walks.{WalkOutcome};
 
-mod neighbours;
 mod search;
 mod soon;
 mod sums;
@@ -13,24 +12,6 @@ mod walk;
 pub enum Found {
     At(usize),
     Nothing,
-}
-
-// The lowest transition that leaves a marked state and starts a pair. Nothing where the numbers are not within their limits.
-pub fn lowest(goal: Goal, cells: &Cells, count: usize, dist: &[u16; 32]) -> Found
-    ensures { λ r. ⌜ LowestStart goal (now (cells .entry)) count (now (dist .entry)) r ⌝ }
-{
-    if 256 < count {
-        return Found::Nothing;
-    }
-    // An everyday table, where no transition overtakes the one right before it, needs no search.
-    if !neighbours::any_overtaken(cells, count) {
-        return Found::Nothing;
-    }
-    if !table::in_limits(cells, count) {
-        return Found::Nothing;
-    }
-    let mut best = [0u32; 7648];
-    search::lowest_start(goal, cells, count, dist, &mut best)
 }
 
 // Transition k, the walk after it and the least end of a pair, written from place `from` on; answers the number of steps.

@@ -3,11 +3,10 @@ use crate::sums::row;
 use criterion::Goal;
 use table::Cells;
 use table::Row;
-ghost use mathlib.Core.Path.{_≡_};
-ghost use Prim.Native.Nat.{_<_, _≤_};
+ghost use Prim.Native.Nat.{_<_};
 ghost use Rattle.table.specs.Fit.{Sound};
 ghost use Rattle.table.specs.Rows.{rows, said};
-ghost use Rattle.walks.specs.Soon.{Sooner, Soon, Asks, RowsFor, Deeper};
+ghost use Rattle.walks.specs.Soon.{Sooner, Soon, Asks, RowsFor};
 
 // The least u + d of all ends, one that has it, and the least of those that can be told apart from that one.
 pub(crate) struct Soonest {
@@ -95,15 +94,4 @@ pub(crate) fn rows_for(goal: Goal, k: Row, s: Soonest) -> usize
         return 0;
     }
     (d - least) as usize
-}
-
-// The greater of `top` and the rows for k.
-pub(crate) fn deeper(goal: Goal, k: Row, s: Soonest, top: usize) -> usize
-    ensures { λ r. ⌜ Deeper goal (said k) s top r ⌝ }
-{
-    let n = rows_for(goal, k, s);
-    if top < n {
-        return n;
-    }
-    top
 }

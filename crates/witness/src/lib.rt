@@ -54,7 +54,7 @@ pub fn write_lowest(
 ) -> Witness
     ensures { λ r. ⌜ WitnessOutcome goal (now (cells .entry)) count (now (dist .entry)) (now (via .entry)) (now (trace .entry)) r (now (trace .exit)) ⌝ }
 {
-    let found = walks::lowest(goal, cells, count, dist);
+    let found = starts::lowest(goal, cells, count, dist);
     let Found::At(k) = found else {
         return Witness::Nothing;
     };

@@ -1,0 +1,5 @@
+pub mod NeighbourLaws
+pub mod KeptLaws
+pub mod RunLaws
+pub mod TableLaws
+pub mod OutcomeLaws

@@ -1,0 +1,193 @@
+-- Laws of the table of what is kept: how it is filled, and how many rows are looked at.
+use mathlib.Core.Path.{_≡_, refl, sym, _∙_}
+use mathlib.Core.Logic.{_⊎_, ⊎-elim, _↔_, dite}
+use mathlib.Core.List.{List}
+use Prim.Native.Nat.{ℕ, _+_, _*_, _-_, _≤_, _<_}
+use native.Mathlib.Nat.{eq-or-lt-of-le}
+use native.Mathlib.Omega.{arith}
+use native.Mathlib.Decide.{ℕ-discrete, decLt}
+use borrow.Author.Count.{below-more}
+use lib.ListN.{length, getD, set, replicate, length-set, length-replicate, getD-replicate, List·getD-eq-default}
+use lib.Seq.{getD-set-same, getD-set-other}
+use Rattle.model.specs.Lists.{All}
+use Rattle.model.specs.Table.{Transition, InRange, at, none}
+use Rattle.model.specs.Shown.{lateGap}
+use Rattle.model.proofs.Lists.{all-at}
+use Rattle.criterion.specs.declared.Goal.{Goal}
+use Rattle.walks.specs.Walks.{Seen, Starts}
+use Rattle.starts.specs.declared.kept.Entry.{Entry}
+use Rattle.starts.specs.Kept.{Kept, entryOf, Asked, Joined, Ended}
+use Rattle.starts.specs.Runs.{Begins, Under}
+use Rattle.starts.specs.Rows.{cell, Sized, Blank, Filled, Making, MoreRows, Covers, Ready}
+use Rattle.starts.proofs.KeptLaws.{kept-same, kept-none}
+use Rattle.starts.proofs.RunLaws.{run-under, under-run, under-none, kept-skip, kept-capped, kept-more, asked-law}
+
+-- the same entry in another list
+kept-cell : {Q : ℕ → ℕ → Type 0} {a b : Entry} → b .first ≡ a .first → b .letter ≡ a .letter → b .second ≡ a .second → Kept Q a → Kept Q b
+kept-cell f l s k = record {
+  some = k .some;
+  first = λ h. rw (f, l) (k .first (omega arith));
+  second = λ h. rw (s, l) (k .second (omega arith));
+  most = λ x c q. omega (arith, k .most x c q);
+  others = λ x c q n. omega (arith, k .others x c q (λ e. n (e ∙ sym l)));
+}
+
+-- one entry stored
+module _ {first letter second : List ℕ} (sized : Sized first letter second) (p : ℕ) (r : Entry) where
+  abbrev stored : ℕ → Entry
+  stored k = entryOf (getD (set first p (r .first)) k 0) (getD (set letter p (r .letter)) k 0) (getD (set second p (r .second)) k 0)
+
+  stored-here : {Q : ℕ → ℕ → Type 0} → p < length first → Kept Q r → Kept Q (stored p)
+  stored-here h = kept-cell (getD-set-same first p (r .first) 0 h) (getD-set-same letter p (r .letter) 0 (omega (arith, sized .letters)))
+      (getD-set-same second p (r .second) 0 (omega (arith, sized .seconds)))
+
+  stored-other : {Q : ℕ → ℕ → Type 0} (k : ℕ) → (k ≡ p → ⊥) → Kept Q (entryOf (getD first k 0) (getD letter k 0) (getD second k 0)) → Kept Q (stored k)
+  stored-other k n = kept-cell (getD-set-other first p k (r .first) 0 n) (getD-set-other letter p k (r .letter) 0 n) (getD-set-other second p k (r .second) 0 n)
+
+  stored-sized : Sized (set first p (r .first)) (set letter p (r .letter)) (set second p (r .second))
+  stored-sized = record { letters = simp length-set (sized .letters); seconds = simp length-set (sized .seconds) }
+
+  stored-blank : {k : ℕ} → p < k → Blank first second k → Blank (set first p (r .first)) (set second p (r .second)) k
+  stored-blank h z = record {
+    firsts = λ x l. getD-set-other first p x (r .first) 0 (λ e. omega arith) ∙ z .firsts x l;
+    seconds = λ x l. getD-set-other second p x (r .second) 0 (λ e. omega arith) ∙ z .seconds x l;
+  }
+
+module _ {ts : List Transition} {first letter second : List ℕ} {b i : ℕ} (m : Making ts first letter second b i) where
+  -- nothing is stored
+  making-stay : ((s : ℕ) → s < 32 → Kept (Under ts s b (i + 1)) (cell first letter second b s)) → Making ts first letter second b (i + 1)
+  making-stay part = record { fine = m .fine; sized = m .sized; room = m .room; done = m .done; part = part; blank = m .blank }
+
+  -- a state that transition i does not leave
+  beside : (s : ℕ) → s < 32 → (s ≡ at ts i .from → ⊥) → Kept (Under ts s b (i + 1)) (cell first letter second b s)
+  beside s l n = kept-skip (λ x c g. n (sym (g .leaves))) (m .part s l)
+
+  -- what transition i adds is stored
+  module _ (h : i < length ts) (low : at ts i .u ≤ b) {mid r : Entry}
+      (j : Joined (cell first letter second b (at ts i .from)) (cell first letter second (b - at ts i .u) (at ts i .to)) (lateGap (at ts i)) mid)
+      (e : Ended mid (at ts i) (b - at ts i .u) r) where
+    abbrev p : ℕ
+    p = b * 32 + at ts i .from
+
+    f : InRange 32 (at ts i)
+    f = all-at none (m .fine) i h
+
+    added : Kept (Under ts (at ts i .from) b (i + 1)) r
+    added = kept-more h refl low f (m .part (at ts i .from) (f .leaves)) (m .done (b - at ts i .u) (at ts i .to) (omega (arith, f .low)) (f .arrives)) j e
+
+    part-put : (s : ℕ) → s < 32 → Kept (Under ts s b (i + 1)) (stored (m .sized) p r (b * 32 + s))
+    part-put s l =
+        dite (ℕ-discrete s (at ts i .from))
+        (λ (q : s ≡ at ts i .from). rw q (stored-here (m .sized) p r (omega (arith, m .room, f .leaves)) added))
+        (λ n. stored-other (m .sized) p r (b * 32 + s) (λ q. n (omega arith)) (beside s l n))
+
+    making-put : Making ts (set first p (r .first)) (set letter p (r .letter)) (set second p (r .second)) b (i + 1)
+    making-put = record {
+      fine = m .fine;
+      sized = stored-sized (m .sized) p r;
+      room = simp length-set (m .room);
+      done = λ a s k l. stored-other (m .sized) p r (a * 32 + s) (λ q. omega arith) (m .done a s k l);
+      part = part-put;
+      blank = stored-blank (m .sized) p r (omega (arith, f .leaves)) (m .blank);
+    }
+
+  -- the ways out of a step, with the transition that the code has read
+  module _ {t : Transition} (z : Seen ts i t) where
+    too-long : b < t .u → (s x c : ℕ) → Begins ts s b i x c → ⊥
+    too-long = rw (← z .here) (λ h s x c g. ⊎-elim (λ o. omega (arith, o .low)) (λ a. omega (arith, a .fits)) (g .goes))
+
+    pub skip-long : b < t .u → Making ts first letter second b (i + 1)
+    skip-long h = making-stay (λ s l. kept-skip (too-long h s) (m .part s l))
+
+    capped-here : 61440 ≤ getD second (b * 32 + at ts i .from) 0 → (s : ℕ) → s < 32 → Kept (Under ts s b (i + 1)) (cell first letter second b s)
+    capped-here h s l =
+        dite (ℕ-discrete s (at ts i .from))
+        (λ (q : s ≡ at ts i .from). kept-capped (m .fine) (rw q h) (m .part s l))
+        (beside s l)
+
+    pub skip-full : {a : Entry} → a ≡ cell first letter second b (t .from) → 61440 ≤ a .second → Making ts first letter second b (i + 1)
+    skip-full e h = making-stay (capped-here (rw (z .here) (rw e at h)))
+
+    pub put-more : {a n mid r : Entry} {g : ℕ} → t .u ≤ b → a ≡ cell first letter second b (t .from) → n ≡ cell first letter second (b - t .u) (t .to)
+        → g ≡ lateGap t → Joined a n g mid → Ended mid t (b - t .u) r
+        → Making ts (set first (b * 32 + t .from) (r .first)) (set letter (b * 32 + t .from) (r .letter)) (set second (b * 32 + t .from) (r .second)) b (i + 1)
+    put-more l ea en eg = rw (ea, en, eg, ← z .here) (making-put (z .known) (rw (z .here) l))
+
+    -- the places of the two entries
+    pub here-there : b * 32 + t .from < length first
+    here-there = omega (arith, m .room, z .fine .leaves)
+
+    pub after-there : (b - t .u) * 32 + t .to < length first
+    after-there = omega (arith, m .room, z .fine .arrives)
+
+-- a row begins with nothing
+module _ {ts : List Transition} {first letter second : List ℕ} where
+  pub making-none : {b : ℕ} → All (InRange 32) ts → Sized first letter second → b * 32 + 32 ≤ length first → Filled ts first letter second b
+      → Making ts first letter second b 0
+  making-none {b} fine sized room f = record {
+    fine = fine;
+    sized = sized;
+    room = room;
+    done = f .row;
+    part = λ s l. kept-none (λ x c u. under-none u) (f .blank .firsts (b * 32 + s) (omega arith)) (f .blank .seconds (b * 32 + s) (omega arith));
+    blank = record { firsts = λ x h. f .blank .firsts x (omega arith); seconds = λ x h. f .blank .seconds x (omega arith) };
+  }
+
+  -- all transitions are done: the row is done
+  pub making-end : {b i : ℕ} → length ts ≤ i → Making ts first letter second b i → Filled ts first letter second (b + 1)
+  making-end {b} h m = record {
+    row = λ a s k l. ⊎-elim
+        (λ (q : a ≡ b). rw q (kept-same (λ x c. under-run) (λ x c. run-under h) (m .part s l)))
+        (λ (q : a < b). m .done a s q l)
+        (eq-or-lt-of-le (omega arith));
+    blank = record { firsts = λ x k. m .blank .firsts x (omega arith); seconds = λ x k. m .blank .seconds x (omega arith) };
+  }
+
+  pub filled-none : Blank first second 0 → Filled ts first letter second 0
+  filled-none z = record {
+    row = λ b s h. absurd (omega arith);
+    blank = record { firsts = λ x h. z .firsts x (omega arith); seconds = λ x h. z .seconds x (omega arith) };
+  }
+
+-- new lists
+pub blank-new : (n : ℕ) → Blank (replicate n 0) (replicate n 0) 0
+blank-new n = record { firsts = λ x h. same 0 n x; seconds = λ x h. same 0 n x }
+  where
+    same : (z k x : ℕ) → getD (replicate k z) x z ≡ z
+    same z k x = dite (decLt x k) (getD-replicate k x z z) (λ n. List·getD-eq-default (replicate k z) z (omega (arith, length-replicate k z)))
+
+pub sized-same : {first letter second f l s : List ℕ} → length f ≡ length first → length l ≡ length letter → length s ≡ length second
+    → Sized first letter second → Sized f l s
+sized-same a b c z = record { letters = omega (arith, z .letters); seconds = omega (arith, z .seconds) }
+
+-- the rows that are looked at
+module _ {ts : List Transition} {dist : List ℕ} where
+  pub covers-none : Covers ts dist 0 0
+  covers-none = record { most = omega arith; enough = λ k h. absurd (omega arith) }
+
+  pub covers-more : {i n r : ℕ} {t : Transition} → Seen ts i t → Covers ts dist i n → MoreRows dist t n r → Covers ts dist (i + 1) r
+  covers-more {i} {n} {r} z c w = record {
+    most = ⊎-elim (λ e. omega (arith, c .most)) (λ e. omega (arith, z .fine .late)) (w .most);
+    enough = below-more (λ k. 1 ≤ getD dist (at ts k .from) 0 → at ts k .d ≤ r) i (λ k h l. omega (arith, c .enough k h l, w .more)) (rw (z .here) (w .enough));
+  }
+
+  -- the test of a transition that leaves a marked state, as the code has read it
+  module _ {first letter second : List ℕ} (fine : All (InRange 32) ts) (y : Ready ts dist first letter second) {k : ℕ} {t : Transition} (z : Seen ts k t)
+      (marked : 1 ≤ getD dist (t .from) 0) where
+    rows-there : t .d ≤ y .n
+    rows-there = rw (z .here) at (y .covers .enough k (z .known) (rw (z .here) marked))
+
+    pub entry-there : (t .d - 1) * 32 + t .to < length first
+    entry-there = omega (arith, rows-there, y .room, z .fine .soon, z .fine .arrives)
+
+    pub start-law : (goal : Goal) {a : Entry} → a ≡ cell first letter second (t .d - 1) (t .to) → Asked goal t a ↔ Starts goal ts dist k
+    start-law goal e =
+        let p = y .filled .row (t .d - 1) (t .to) (omega (arith, rows-there, z .fine .soon)) (z .fine .arrives) in
+        let l = rw (z .here) at (asked-law goal fine (z .known) {a = cell first letter second (t .d - 1) (t .to)} (rw (z .here) p)) in
+        rw e (
+          λ q. record { arrives = record { known = z .known; to = refl; leaves = rw (z .here) marked }; after = l .0 q },
+          λ s. l .1 (s .after),
+        )
+
+  pub not-marked : {k : ℕ} {t : Transition} → Seen ts k t → (goal : Goal) → getD dist (t .from) 0 ≡ 0 → Starts goal ts dist k → ⊥
+  not-marked z goal h s = let l = rw (z .here) at (s .arrives .leaves) in omega arith

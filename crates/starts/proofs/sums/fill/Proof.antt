@@ -1,0 +1,66 @@
+use borrow.Author.Needs.{needs}
+use native.Mathlib.Omega.{arith}
+use mathlib.Core.Path.{_≡_, refl}
+use Prim.Native.Nat.{_≤_, _-_}
+use lib.ListN.{length}
+use Rattle.table.specs.Rows.{rows}
+use Rattle.starts.specs.Rows.{Filled}
+use Rattle.starts.proofs.TableLaws.{filled-none, making-none, sized-same}
+use Rattle.starts.proofs.sums.fill.Statement.{statement}
+use Rattle.starts.proofs.sums.fill.Tie as tie
+
+abbrev Inv-loop : tie.InvT-loop
+Inv-loop cells count first₀ letter₀ second₀ n b₀ first letter second b =
+    (b ≤ n) × (length first ≡ length first₀) × (length letter ≡ length letter₀) × (length second ≡ length second₀)
+    × Filled (rows cells count) first letter second b
+
+abbrev μ-loop : tie.MeasureT-loop
+μ-loop cells count first₀ letter₀ second₀ n b₀ first letter second b = n - b
+
+loop-holds : tie.Need-loop-holds Inv-loop μ-loop
+loop-holds c = (omega arith, refl, refl, refl, filled-none (c .before .before .before .pre .2))
+
+sweep-requires : tie.Need-sweep-requires Inv-loop μ-loop
+sweep-requires c κs =
+    let s = c .before .before .before .before .before .before .before .before .pre in
+    let l = c .before .before .before .before .loop .inv in
+    (s .0, making-none (s .0 .ranged) (sized-same (l .1) (l .2) (l .3) (s .1)) (omega (arith, s .3, l .1, c .before .before .before .loop-test .taken)) (l .4))
+
+add-b : tie.Need-add-b Inv-loop μ-loop
+add-b c = search needs
+
+loop-less : tie.Need-loop-less Inv-loop μ-loop
+loop-less c = search needs
+
+loop-again : tie.Need-loop-again Inv-loop μ-loop
+loop-again c = search needs
+
+same-length : tie.Need-same-length Inv-loop μ-loop
+same-length c = search needs
+
+same-length-2 : tie.Need-same-length-2 Inv-loop μ-loop
+same-length-2 c = search needs
+
+same-length-3 : tie.Need-same-length-3 Inv-loop μ-loop
+same-length-3 c = search needs
+
+returns : tie.Need-returns Inv-loop μ-loop
+returns c =
+    let e : c .before .loop .b ≡ c .before .before .before .before .before .args .n = omega arith in
+    rw e at (c .before .loop .inv .4)
+
+pub fill-spec : {M : Type 1} → statement M
+fill-spec =
+    tie.close
+    (tie.spec
+    Inv-loop
+    μ-loop
+    loop-holds
+    sweep-requires
+    add-b
+    loop-less
+    loop-again
+    same-length
+    same-length-2
+    same-length-3
+    returns)

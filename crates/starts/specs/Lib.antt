@@ -1,0 +1,4 @@
+pub mod Neighbours
+pub mod Kept
+pub mod Runs
+pub mod Rows
