@@ -103,7 +103,8 @@ module _ {number : ℕ → ℕ} {n : ℕ} {lows : List ℕ} {calm : List Bool} {
       lows-size = length-set lows (p / 8) (t .first) ∙ l .seen .lows-size;
       calm-size = length-set calm p b ∙ l .seen .calm-size;
       low = λ i j a c f. dite (ℕ-discrete i (p / 8))
-          (λ e. rw (e, getD-set-same lows (p / 8) (t .first) 0 (omega (arith, l .seen .lows-size, l .seen .few, l .within))) (over-more j (omega arith) f .first))
+          (λ e. rw (e, getD-set-same lows (p / 8) (t .first) 0 (omega (arith, l .seen .lows-size, l .seen .few, l .within)))
+          (over-more j (omega arith) f .first))
           (λ d. rw (getD-set-other lows (p / 8) i (t .first) 0 d) (l .seen .low i j (omega arith) c f));
       still = still-more;
     };

@@ -17,16 +17,19 @@ abbrev μ-loop : tie.MeasureT-loop
 -- the sum that the code makes at the step that it looks at
 add-v : tie.Need-add-v Inv-loop μ-loop
 add-v c =
-    omega (arith, next-small (c .before .before .before .loop .inv) (omega arith) (c .before .step .result) (c .before .step .ensures) (c .late-gap .result) (c .late-gap .ensures))
+    let s = c .before .step in
+    omega (arith, next-small (c .before .before .before .loop .inv) (omega arith) (s .result) (s .ensures) (c .late-gap .result) (c .late-gap .ensures))
 
 late-number-requires : tie.Need-late-number-requires Inv-loop μ-loop
 late-number-requires c κs =
-    omega (arith, next-small (c .before .before .before .loop .inv) (omega arith) (c .before .step .result) (c .before .step .ensures) (c .late-gap .result) (c .late-gap .ensures))
+    let s = c .before .step in
+    omega (arith, next-small (c .before .before .before .loop .inv) (omega arith) (s .result) (s .ensures) (c .late-gap .result) (c .late-gap .ensures))
 
 loop-again : tie.Need-loop-again Inv-loop μ-loop
 loop-again c =
     let g = c .before in
-    filling-more (g .before .before .before .loop .inv) (omega arith) (g .before .step .result) (g .before .step .ensures) (g .late-gap .result) (g .late-gap .ensures)
+    let s = g .before .step in
+    filling-more (g .before .before .before .loop .inv) (omega arith) (s .result) (s .ensures) (g .late-gap .result) (g .late-gap .ensures)
     (c .late-number .result) (c .late-number .ensures)
 
 returns : tie.Need-returns Inv-loop μ-loop
