@@ -1,4 +1,4 @@
-pub mod NeighbourLaws
+pub mod OvertakenLaws
 pub mod KeptLaws
 pub mod RunLaws
 pub mod TableLaws

@@ -188,6 +188,3 @@ module _ {ts : List Transition} {dist : List ℕ} where
           λ q. record { arrives = record { known = z .known; to = refl; leaves = rw (z .here) marked }; after = l .0 q },
           λ s. l .1 (s .after),
         )
-
-  pub not-marked : {k : ℕ} {t : Transition} → Seen ts k t → (goal : Goal) → getD dist (t .from) 0 ≡ 0 → Starts goal ts dist k → ⊥
-  not-marked z goal h s = let l = rw (z .here) at (s .arrives .leaves) in omega arith

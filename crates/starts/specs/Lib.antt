@@ -1,4 +1,3 @@
-pub mod Neighbours
 pub mod Kept
 pub mod Runs
 pub mod Rows

@@ -3,13 +3,13 @@ use criterion::Goal;
 use table::Cells;
 use walks::Found;
 ghost use Prim.Native.Nat.{_≤_};
+ghost use Rattle.criterion.specs.declared.Goal.the-variants.{Turns};
 ghost use Rattle.table.specs.Fit.{Sound};
 ghost use Rattle.table.specs.Rows.{rows};
 ghost use Rattle.walks.specs.Walks.{Least, Starts, LowestStart};
 ghost use Rattle.starts.specs.Rows.{Covers};
 
 mod kept;
-mod neighbours;
 mod search;
 mod sums;
 
@@ -53,23 +53,28 @@ fn in_all(goal: Goal, cells: &Cells, count: usize, dist: &[u16; 32], n: usize) -
     )
 }
 
+// The lowest that starts a pair that turns.
+fn lowest_turning(cells: &Cells, count: usize, dist: &[u16; 32]) -> Found
+    requires { ⌜ Sound (now cells) count ⌝ }
+    ensures { λ r. ⌜ Least (Starts Turns (rows (now (cells .entry)) count) (now (dist .entry))) r ⌝ }
+{
+    let n = search::rows_asked(cells, count, dist);
+    if n <= 64 {
+        return in_few(Goal::Turns, cells, count, dist, n);
+    }
+    in_all(Goal::Turns, cells, count, dist, n)
+}
+
 // The lowest transition that leaves a marked state and starts a pair. Nothing where the numbers are not within their limits.
 pub fn lowest(goal: Goal, cells: &Cells, count: usize, dist: &[u16; 32]) -> Found
     ensures { λ r. ⌜ LowestStart goal (now (cells .entry)) count (now (dist .entry)) r ⌝ }
 {
-    if 256 < count {
+    // What turns is overtaken: where nothing can be, nothing is searched.
+    let Found::At(k) = soonest::lowest_overtaken(cells, count, dist) else {
         return Found::Nothing;
+    };
+    match goal {
+        Goal::Turns => lowest_turning(cells, count, dist),
+        Goal::Overtakes => Found::At(k),
     }
-    // An everyday table, where no transition overtakes the one right before it, needs no search.
-    if !neighbours::any_overtaken(cells, count) {
-        return Found::Nothing;
-    }
-    if !table::in_limits(cells, count) {
-        return Found::Nothing;
-    }
-    let n = search::rows_asked(cells, count, dist);
-    if n <= 64 {
-        return in_few(goal, cells, count, dist, n);
-    }
-    in_all(goal, cells, count, dist, n)
 }

@@ -1,7 +1,8 @@
 use borrow.Author.Needs.{needs}
 use native.Mathlib.Omega.{arith}
 use Rattle.model.proofs.AnswerLaws.{tells-same}
-use Rattle.starts.proofs.TableLaws.{entry-there, start-law, not-marked}
+use Rattle.soonest.proofs.SoonestLaws.{not-marked}
+use Rattle.starts.proofs.TableLaws.{entry-there, start-law}
 use Rattle.starts.proofs.search.starts.Statement.{statement}
 use Rattle.starts.proofs.search.starts.Tie as tie
 
@@ -12,7 +13,7 @@ mark-of-requires : tie.Need-mark-of-requires
 mark-of-requires c κs = search needs
 
 returns : tie.Need-returns
-returns c = λ s. not-marked (c .before .before .row .ensures) _ (omega (arith, c .before .mark-of .ensures)) s
+returns c = λ s. not-marked (c .before .before .row .ensures) _ _ (omega (arith, c .before .mark-of .ensures)) s
 
 cast-entry : tie.Need-cast-entry
 cast-entry c = search needs

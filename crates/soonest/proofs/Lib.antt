@@ -1,0 +1,2 @@
+pub mod SoonestLaws
+pub mod OutcomeLaws
