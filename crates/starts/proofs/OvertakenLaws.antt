@@ -1,13 +1,18 @@
--- What starts a pair that is asked for can be overtaken: where nothing can, nothing starts one.
+-- What is ruled out without a table: what starts a pair can be overtaken, and what turns has letters that differ.
+use mathlib.Core.Path.{_≡_, sym, _∙_}
+use mathlib.Core.Logic.{by-cases}
 use mathlib.Core.List.{List}
-use Prim.Native.Nat.{ℕ}
+use Prim.Native.Nat.{ℕ, _<_}
+use native.Mathlib.Decide.{ℕ-discrete}
 use lib.ListN.{length}
 use Rattle.model.specs.Table.{Transition, at}
 use Rattle.criterion.specs.declared.Goal.{Goal}
-use Rattle.criterion.specs.declared.Goal.the-variants.{Overtakes}
+use Rattle.criterion.specs.declared.Goal.the-variants.{Turns, Overtakes}
 use Rattle.criterion.proofs.GoalLaws.{goal-sought}
 use Rattle.walks.specs.declared.Found.the-variants.{Nothing}
-use Rattle.walks.specs.Walks.{Starts, LowestStart}
+use Rattle.walks.specs.Walks.{Starts, Least, LowestStart}
+use Rattle.walks.proofs.EndLaws.{end-known}
+use Rattle.starts.specs.Letters.{AnyUnlike}
 
 pub starts-overtaken : (goal : Goal) (ts : List Transition) (dist : List ℕ) (k : ℕ) → Starts goal ts dist k → Starts Overtakes ts dist k
 starts-overtaken goal ts dist k p =
@@ -22,3 +27,10 @@ starts-overtaken goal ts dist k p =
 
 pub none-overtaken : (goal : Goal) (c : List ℕ) (n : ℕ) (dist : List ℕ) → LowestStart Overtakes c n dist Nothing → LowestStart goal c n dist Nothing
 none-overtaken goal c n dist l x p = l x (p .0, starts-overtaken goal _ dist x (p .1))
+
+pub none-unlike : (ts : List Transition) → (AnyUnlike ts → ⊥) → {dist : List ℕ} → Least (Starts Turns ts dist) Nothing
+none-unlike ts none k s =
+    let like : (m : ℕ) → m < length ts → at ts 0 .output ≡ at ts m .output = λ m h.
+    by-cases (ℕ-discrete (at ts 0 .output) (at ts m .output)) (λ e. e) (λ d. absurd (none (record { x = m; known = h; holds = d }))) in
+    let t = s .after .to in
+    t .meets .differ (sym (like k (s .arrives .known)) ∙ like (s .after .m) (end-known Turns t))

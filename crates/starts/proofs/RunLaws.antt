@@ -19,6 +19,7 @@ use Rattle.criterion.specs.declared.Goal.{Goal}
 use Rattle.criterion.specs.declared.Goal.the-variants.{Turns, Overtakes}
 use Rattle.criterion.specs.Goals.{Meets}
 use Rattle.walks.specs.Walks.{Followed}
+use Rattle.walks.proofs.WalkLaws.{sum-last}
 use Rattle.walks.proofs.EndLaws.{end-known}
 use Rattle.starts.specs.declared.kept.Entry.{Entry}
 use Rattle.starts.specs.Kept.{cap, Kept, Asked, Joined, Ended, ended-not, ended-here}
@@ -86,6 +87,12 @@ module _ {ts : List Transition} where
   run-within fine r =
       let k = trace-split ts _ (r .end) (r .rest) (r .m ∷ []) (r .walk) in
       omega (arith, r .late, all-at none fine (r .m) (k .2 .0) .soon)
+
+  -- no walk ends before its end can
+  pub run-least : {r s b x c : ℕ} → ((m : ℕ) → m < length ts → r ≤ at ts m .u + at ts m .d) → b < r → Run ts s b x c → ⊥
+  run-least least h r =
+      let k = trace-split ts _ (r .end) (r .rest) (r .m ∷ []) (r .walk) in
+      omega (arith, r .fits, sum-last ts (λ t. t .u) (r .rest) (r .m), least (r .m) (k .2 .0))
 
   -- transition i taken in
   module _ {s b i : ℕ} where

@@ -2,7 +2,7 @@
 use mathlib.Core.Path.{_≡_, refl, sym, _∙_}
 use mathlib.Core.Logic.{_⊎_, ⊎-elim, _↔_, dite}
 use mathlib.Core.List.{List}
-use Prim.Native.Nat.{ℕ, _+_, _*_, _-_, _≤_, _<_}
+use Prim.Native.Nat.{ℕ, _+_, _*_, _-_, _≤_, _<_, min}
 use native.Mathlib.Nat.{eq-or-lt-of-le}
 use native.Mathlib.Omega.{arith}
 use native.Mathlib.Decide.{ℕ-discrete, decLt}
@@ -18,9 +18,9 @@ use Rattle.walks.specs.Walks.{Seen, Starts}
 use Rattle.starts.specs.declared.kept.Entry.{Entry}
 use Rattle.starts.specs.Kept.{Kept, entryOf, Asked, Joined, Ended}
 use Rattle.starts.specs.Runs.{Begins, Under}
-use Rattle.starts.specs.Rows.{cell, Sized, Blank, Filled, Making, MoreRows, Covers, Ready}
+use Rattle.starts.specs.Rows.{cell, Sized, Blank, EndsFrom, Filled, Making, MoreRows, Covers, Ready}
 use Rattle.starts.proofs.KeptLaws.{kept-same, kept-none}
-use Rattle.starts.proofs.RunLaws.{run-under, under-run, under-none, kept-skip, kept-capped, kept-more, asked-law}
+use Rattle.starts.proofs.RunLaws.{run-under, run-least, under-run, under-none, kept-skip, kept-capped, kept-more, asked-law}
 
 -- the same entry in another list
 kept-cell : {Q : ℕ → ℕ → Type 0} {a b : Entry} → b .first ≡ a .first → b .letter ≡ a .letter → b .second ≡ a .second → Kept Q a → Kept Q b
@@ -143,10 +143,21 @@ module _ {ts : List Transition} {first letter second : List ℕ} where
     blank = record { firsts = λ x k. m .blank .firsts x (omega arith); seconds = λ x k. m .blank .seconds x (omega arith) };
   }
 
-  pub filled-none : Blank first second 0 → Filled ts first letter second 0
-  filled-none z = record {
-    row = λ b s h. absurd (omega arith);
+  -- the rows before the first end
+  pub filled-none : {i n r : ℕ} → length ts ≡ i → EndsFrom ts i n r → Blank first second 0 → Filled ts first letter second r
+  filled-none q e z = record {
+    row = λ b s h l. kept-none (λ x c. run-least (λ m k. e .none m (omega arith)) h) (z .firsts (b * 32 + s) (omega arith)) (z .seconds (b * 32 + s) (omega arith));
     blank = record { firsts = λ x h. z .firsts x (omega arith); seconds = λ x h. z .seconds x (omega arith) };
+  }
+
+module _ {ts : List Transition} {n : ℕ} where
+  pub ends-from : EndsFrom ts 0 n n
+  ends-from = record { most = omega arith; none = λ m h. absurd (omega arith) }
+
+  pub ends-more : {i r x : ℕ} {t : Transition} → Seen ts i t → x ≡ min r (t .u + t .d) → EndsFrom ts i n r → EndsFrom ts (i + 1) n x
+  ends-more {i} {r} {x} z q e = record {
+    most = omega (arith, e .most);
+    none = below-more (λ m. x ≤ at ts m .u + at ts m .d) i (λ m h. omega (arith, e .none m h)) (rw (z .here) (omega arith));
   }
 
 -- new lists

@@ -1,3 +1,4 @@
+pub mod Letters
 pub mod Kept
 pub mod Runs
 pub mod Rows

@@ -29,6 +29,11 @@ pub record Filled (ts : List Transition) (first letter second : List ℕ) (n : �
   pub row : (b s : ℕ) → b < n → s < 32 → Kept (Run ts s b) (cell first letter second b s)
   pub blank : Blank first second (n * 32)
 
+-- none of the first i transitions can end a walk in a row before r, which is at most n
+pub record EndsFrom (ts : List Transition) (i n r : ℕ) : Type 0 where
+  pub most : r ≤ n
+  pub none : (m : ℕ) → m < i → r ≤ at ts m .u + at ts m .d
+
 -- row b in the making: the first i transitions are done
 pub record Making (ts : List Transition) (first letter second : List ℕ) (b i : ℕ) : Type 0 where
   pub fine : All (InRange 32) ts

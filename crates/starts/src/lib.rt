@@ -10,6 +10,7 @@ ghost use Rattle.walks.specs.Walks.{Least, Starts, LowestStart};
 ghost use Rattle.starts.specs.Rows.{Covers};
 
 mod kept;
+mod letters;
 mod search;
 mod sums;
 
@@ -58,6 +59,9 @@ fn lowest_turning(cells: &Cells, count: usize, dist: &[u16; 32]) -> Found
     requires { ⌜ Sound (now cells) count ⌝ }
     ensures { λ r. ⌜ Least (Starts Turns (rows (now (cells .entry)) count) (now (dist .entry))) r ⌝ }
 {
+    if !letters::any_unlike(cells, count) {
+        return Found::Nothing;
+    }
     let n = search::rows_asked(cells, count, dist);
     if n <= 64 {
         return in_few(Goal::Turns, cells, count, dist, n);

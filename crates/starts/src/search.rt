@@ -58,7 +58,8 @@ fn starts(
     ensures { λ r. ⌜ Tells r (Starts goal (rows (now (cells .entry)) count) (now (dist .entry)) k) ⌝ }
 {
     let t = row(cells, count, k);
-    if reach::mark_of(dist, t.from) == 0 {
+    let mark = reach::mark_of(dist, t.from);
+    if mark == 0 {
         return false;
     }
     let a = entry(first, letter, second, t.d as usize - 1, t.to as usize);

@@ -5,12 +5,12 @@ use crate::kept::joined;
 use table::Cells;
 use table::Row;
 ghost use mathlib.Core.Path.{_≡_};
-ghost use Prim.Native.Nat.{_+_, _*_, _<_, _≤_};
+ghost use Prim.Native.Nat.{_+_, _*_, _<_, _≤_, min};
 ghost use lib.ListN.{length, set};
 ghost use Rattle.table.specs.Fit.{Sound};
 ghost use Rattle.table.specs.Rows.{rows, said};
 ghost use Rattle.walks.specs.Walks.{Seen};
-ghost use Rattle.starts.specs.Rows.{cell, Sized, Blank, Filled, Making};
+ghost use Rattle.starts.specs.Rows.{cell, Sized, Blank, EndsFrom, Filled, Making};
 
 // The transition at i of a sound table.
 pub(crate) fn row(cells: &Cells, count: usize, i: usize) -> Row
@@ -96,6 +96,27 @@ fn sweep(
     }
 }
 
+fn sooner(t: Row, low: usize) -> usize
+    ensures { λ r. ⌜ r ≡ min low (t .u + t .d) ⌝ }
+{
+    let own = t.u as usize + t.d as usize;
+    if own < low { own } else { low }
+}
+
+// The first row in which a walk can end, at most n: the rows before it keep nothing.
+fn first_row(cells: &Cells, count: usize, n: usize) -> usize
+    requires { ⌜ Sound (now cells) count ⌝ }
+    ensures { λ r. ⌜ EndsFrom (rows (now (cells .entry)) count) count n r ⌝ }
+{
+    let mut low = n;
+    let mut i: usize = 0;
+    while i < count {
+        low = sooner(row(cells, count, i), low);
+        i += 1;
+    }
+    low
+}
+
 // The first n rows, where nothing was.
 pub(crate) fn fill(
     cells: &Cells,
@@ -108,7 +129,7 @@ pub(crate) fn fill(
     requires { ⌜ Sound (now cells) count × Sized (now first) (now letter) (now second) × Blank (now first) (now second) 0 × (n * 32 ≤ length (now first)) ⌝ }
     ensures { λ _. ⌜ Filled (rows (now (cells .entry)) count) (now (first .exit)) (now (letter .exit)) (now (second .exit)) n ⌝ }
 {
-    let mut b: usize = 0;
+    let mut b = first_row(cells, count, n);
     while b < n {
         sweep(cells, count, first, letter, second, b);
         b += 1;

@@ -4,6 +4,7 @@ use mathlib.Core.Path.{_≡_, refl}
 use Prim.Native.Nat.{_≤_, _-_}
 use lib.ListN.{length}
 use Rattle.table.specs.Rows.{rows}
+use Rattle.table.proofs.RowLaws.{length-rows}
 use Rattle.starts.specs.Rows.{Filled}
 use Rattle.starts.proofs.TableLaws.{filled-none, making-none, sized-same}
 use Rattle.starts.proofs.sums.fill.Statement.{statement}
@@ -17,12 +18,17 @@ Inv-loop cells count first₀ letter₀ second₀ n b₀ first letter second b =
 abbrev μ-loop : tie.MeasureT-loop
 μ-loop cells count first₀ letter₀ second₀ n b₀ first letter second b = n - b
 
+first-row-requires : tie.Need-first-row-requires Inv-loop μ-loop
+first-row-requires c κs = search needs
+
 loop-holds : tie.Need-loop-holds Inv-loop μ-loop
-loop-holds c = (omega arith, refl, refl, refl, filled-none (c .before .before .before .pre .2))
+loop-holds c =
+    let e = c .first-row .ensures in
+    (e .most, refl, refl, refl, filled-none (length-rows _ _) e (c .before .before .before .before .pre .2))
 
 sweep-requires : tie.Need-sweep-requires Inv-loop μ-loop
 sweep-requires c κs =
-    let s = c .before .before .before .before .before .before .before .before .pre in
+    let s = c .before .before .before .before .before .before .before .before .before .pre in
     let l = c .before .before .before .before .loop .inv in
     (s .0, making-none (s .0 .ranged) (sized-same (l .1) (l .2) (l .3) (s .1)) (omega (arith, s .3, l .1, c .before .before .before .loop-test .taken)) (l .4))
 
@@ -33,7 +39,15 @@ loop-less : tie.Need-loop-less Inv-loop μ-loop
 loop-less c = search needs
 
 loop-again : tie.Need-loop-again Inv-loop μ-loop
-loop-again c = search needs
+loop-again c =
+    let r = c .before .before .before .before .before .before .sweep in
+    let l = c .before .before .before .before .before .before .before .before .before .before .before .loop .inv in (
+      omega arith,
+      omega (arith, r .kept .1 .1 .0, l .1),
+      omega (arith, r .kept .1 .1 .1 .0, l .2),
+      omega (arith, r .kept .1 .1 .1 .1 .0, l .3),
+      r .ensures,
+    )
 
 same-length : tie.Need-same-length Inv-loop μ-loop
 same-length c = search needs
@@ -46,7 +60,7 @@ same-length-3 c = search needs
 
 returns : tie.Need-returns Inv-loop μ-loop
 returns c =
-    let e : c .before .loop .b ≡ c .before .before .before .before .before .args .n = omega arith in
+    let e : c .before .loop .b ≡ c .before .before .before .before .before .before .args .n = omega arith in
     rw e at (c .before .loop .inv .4)
 
 pub fill-spec : {M : Type 1} → statement M
@@ -55,6 +69,7 @@ fill-spec =
     (tie.spec
     Inv-loop
     μ-loop
+    first-row-requires
     loop-holds
     sweep-requires
     add-b
