@@ -146,7 +146,8 @@ module _ {ts : List Transition} {first letter second : List ℕ} where
   -- the rows before the first end
   pub filled-none : {i n r : ℕ} → length ts ≡ i → EndsFrom ts i n r → Blank first second 0 → Filled ts first letter second r
   filled-none q e z = record {
-    row = λ b s h l. kept-none (λ x c. run-least (λ m k. e .none m (omega arith)) h) (z .firsts (b * 32 + s) (omega arith)) (z .seconds (b * 32 + s) (omega arith));
+    row = λ b s h l.
+        kept-none (λ x c. run-least (λ m k. e .none m (omega arith)) h) (z .firsts (b * 32 + s) (omega arith)) (z .seconds (b * 32 + s) (omega arith));
     blank = record { firsts = λ x h. z .firsts x (omega arith); seconds = λ x h. z .seconds x (omega arith) };
   }
 
