@@ -78,10 +78,10 @@ extern "C" {
 #endif
 
 /* The version: a minor one adds calls and numbers, a major one changes what a call means (CHANGELOG.md). */
-#define SANDGUSSET_VERSION "2.0.2"
+#define SANDGUSSET_VERSION "2.0.3"
 #define SANDGUSSET_VERSION_MAJOR 2
 #define SANDGUSSET_VERSION_MINOR 0
-#define SANDGUSSET_VERSION_PATCH 2
+#define SANDGUSSET_VERSION_PATCH 3
 
 /* Values of the status field. */
 #define SANDGUSSET_DONE 0           /* strict, in order, steady, replayed or written */
@@ -116,12 +116,12 @@ extern "C" {
 
 /* Bytes of stack: each call uses less. Not counted are some KB that the system's loader takes at a first call in a program
  * that binds its functions late (linked without -z now). */
-#define SANDGUSSET_STACK_JUDGE 69632
+#define SANDGUSSET_STACK_JUDGE 61440
 #define SANDGUSSET_STACK_ORDER 59392
-#define SANDGUSSET_STACK_JUDGE_TRACE 24576
-#define SANDGUSSET_STACK_REPLAY 17408
-#define SANDGUSSET_STACK_REPLAY_WORDS 17408
-#define SANDGUSSET_STACK_REWRITE 14336
+#define SANDGUSSET_STACK_JUDGE_TRACE 12288
+#define SANDGUSSET_STACK_REPLAY 9216
+#define SANDGUSSET_STACK_REPLAY_WORDS 9216
+#define SANDGUSSET_STACK_REWRITE 3072
 
 /* Judges a whole table. Refusals: 1 to 5, 8.
  *
