@@ -25,7 +25,7 @@ pub(crate) fn gap(before: u32, stamp: u32) -> u32
 }
 
 // Whether a gap is greater than u and at most v: no other place compares a gap with a guard.
-fn inside(r: Row, gap: u32) -> bool
+pub fn inside(r: Row, gap: u32) -> bool
     ensures { λ b. ⌜ Tells b (Fits 256 (said r) gap) ⌝ }
 {
     if gap <= parts(r.u) {

@@ -13,7 +13,7 @@ ghost use Rattle.replay.specs.Judge.{Judges};
 ghost use Rattle.replay.specs.Laid.{WordRun};
 ghost use Rattle.replay.specs.Play.{replayedFields, ownTests, ReplayOutcome};
 
-mod gaps;
+pub mod gaps;
 mod responses;
 
 pub enum Replayed {
