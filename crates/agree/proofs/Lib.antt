@@ -1,0 +1,4 @@
+pub mod Moves
+pub mod Chains
+pub mod Theorems
+pub mod Exists
