@@ -51,16 +51,6 @@ def with_like_letters(source, answer, judge):
     return answer._replace(apart=apart)
 
 
-def tell_refusal(source, answer):
-    """A refusal's words, and for a text the lines."""
-    for line in source.told():
-        files.say(line)
-    number, offset = answer.numbers
-    files.say(f"{source.place(offset)}: refused {number}: {answers.REFUSALS[number]}")
-    if source.hint:
-        files.say(f"{source.name}: taken for a table file, not for a text: {source.hint}")
-
-
 def serve(call, path):
     """Judges what stands there; the status."""
     if call.page is not None:
@@ -79,7 +69,8 @@ def serve(call, path):
     wide = widths.found(judge, source.table()) if call.widths and answer.word == "strict" else None
     files.put_out(printed(call, source, answer, wide))
     if answer.word == "refused":
-        tell_refusal(source, answer)
+        for line in source.refused(*answer.numbers):
+            files.say(line)
     elif call.widths and wide is None:
         files.say(f"{source.name}: the table must be strict first, before its guards can be widened")
     put_page(call, path, source, answer, wide)

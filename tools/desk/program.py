@@ -33,10 +33,10 @@ def needed_crates(root, name):
 
 
 class Program:
-    """A program of the repository, by the name of its crate."""
+    """A program of the repository, by the name of its crate; who: the script that tells how far its building is."""
 
-    def __init__(self, name="judge", root=ROOT):
-        self.name, self.root = name, root
+    def __init__(self, name="judge", root=ROOT, who="judge"):
+        self.name, self.root, self.who = name, root, who
         self.target = os.path.join(root, "target")
         self.binary = os.path.join(self.target, "bin", name)
 
@@ -79,7 +79,7 @@ class Program:
         if not os.path.exists(self.binary) and os.path.exists(stamp):
             os.unlink(stamp)
         if self.is_old():
-            files.say("judge: building what is missing or has changed; from nothing this takes minutes")
+            files.say(f"{self.who}: building what is missing or has changed; from nothing this takes minutes")
         crates = needed_crates(self.root, self.name)
         said, done = [], 0
         with subprocess.Popen([toolchain_command(), "check", self.name], cwd=self.root, stdin=subprocess.DEVNULL,
@@ -90,9 +90,9 @@ class Program:
                 if proved and proved.group(1) in crates:
                     done += 1
                     if "unchanged" not in proved.group(2):
-                        files.say(f"judge: {done} of {len(crates)}: {proved.group(1)} proved ({proved.group(2)})")
+                        files.say(f"{self.who}: {done} of {len(crates)}: {proved.group(1)} proved ({proved.group(2)})")
         if process.returncode or not os.path.exists(self.binary):
-            raise Trouble("\n".join(said + ["judge: the program was not built"]))
+            raise Trouble("\n".join(said + [f"{self.who}: the program was not built"]))
         os.utime(self.binary)
 
     # ---- Running ----

@@ -1,6 +1,6 @@
 """What is judged: a text or a table file, and how its transitions are named to the reader."""
 
-from desk import files, tables, texts
+from desk import answers, files, tables, texts
 
 
 class Source:
@@ -26,6 +26,13 @@ class Source:
     def place(self, offset):
         """Where a refused record stands."""
         return f"{self.name}:{self.text.line_at(offset)}" if self.text else f"{self.name}: at byte {offset}"
+
+    def refused(self, number, offset):
+        """A refusal's words, and for a text the lines."""
+        lines = self.told() + [f"{self.place(offset)}: refused {number}: {answers.REFUSALS[number]}"]
+        if self.hint:
+            lines.append(f"{self.name}: taken for a table file, not for a text: {self.hint}")
+        return lines
 
     def why(self):
         """Why the file is refused, closer than its number says."""

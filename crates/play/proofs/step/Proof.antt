@@ -258,12 +258,14 @@ map-long (y ∷ ys) = ap suc (map-long ys)
 abbrev both : Moved → List Pending → After
 both r zs = record { moved = r; list = zs }
 
-is-both : (r : Moved) (zs : List Pending) (v u : Val) → Is Md.the-row r (v ∷ []) → Is Rows zs (u ∷ []) → Is Af.the-row (both r zs) (vstruct (ofList (v ∷ u ∷ [])) ∷ [])
+is-both : (r : Moved) (zs : List Pending) (v u : Val) → Is Md.the-row r (v ∷ []) → Is Rows zs (u ∷ [])
+    → Is Af.the-row (both r zs) (vstruct (ofList (v ∷ u ∷ [])) ∷ [])
 is-both r zs v u g h = ((v ∷ [], (u ∷ [], tt)), (refl, (g, ((h .0, ((h .1 .0 .0, map-long zs ∙ h .1 .0 .1), each-in zs (h .0) (h .1 .1))), tt))))
 
 module _ {M : Type 1} (𝓤 : URA M) (H : Heap 𝓤) (A : Atoms 𝓤) (W : Given 𝓤 H A) where
   -- the list in its local is its records, side by side
-  goes-apart : (ys : List Pending) (v : Val) (b : ℕ) → Is Rows ys (v ∷ []) → ent 𝓤 (sem 𝓤 H A (fat fullShare arrTy b 0 v)) (sem 𝓤 H A (cells (mem T.the-row) ys b 0))
+  goes-apart : (ys : List Pending) (v : Val) (b : ℕ) → Is Rows ys (v ∷ [])
+      → ent 𝓤 (sem 𝓤 H A (fat fullShare arrTy b 0 v)) (sem 𝓤 H A (cells (mem T.the-row) ys b 0))
   unfolding partOf
   goes-apart ys v b g =
       qed W (‵ (fat fullShare arrTy b 0 v) ∷ []) ∵ use1 W (‵ (cellAt fullShare (Rows .mir) (v ∷ []) b 0)) (W .laws .at-raw fullShare arrTy b 0 v) $
