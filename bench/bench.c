@@ -1,7 +1,7 @@
 /* Time per call of the library and of what it is held against, from one alternating run, and the library's stack.
  *
- * Links the library's six calls (sandgusset_...) with those of bench/sandgusset.c (base_...) and of bench/best.c, which comes
- * with its own search (best_...) and with a plain one (plain_...). bench/run builds it, runs it and prints a table of what it
+ * Links the library's calls (sandgusset_...) with those of bench/sandgusset.c (base_...) and of bench/best.c, which comes
+ * with its own search (best_...) and with a plain one (plain_...) and has no player. bench/run builds it, runs it and prints a table of what it
  * says. It says, in lines whose words are parted by tabs:
  *   time   group  name  goal (greatest ratio, or 0)  side that it is held against  seconds per call of each side (0: not run)
  *   stack  call   bytes that it used  bytes that the header names
@@ -35,6 +35,14 @@ on_word base_replay, best_replay, plain_replay;
 on_words base_replay_words, best_replay_words, plain_replay_words;
 on_file base_rewrite, best_rewrite, plain_rewrite;
 
+typedef uint64_t on_config(const uint8_t *, size_t, uint8_t *, size_t, uint8_t *, size_t);
+typedef uint64_t on_time(const uint8_t *, size_t, uint8_t *, size_t, uint8_t *, size_t, uint32_t);
+typedef uint64_t on_input(const uint8_t *, size_t, uint8_t *, size_t, uint8_t *, size_t, uint16_t);
+
+on_config base_player_start, base_player_output;
+on_time base_player_time;
+on_input base_player_input;
+
 #define CALLS_OF(side) side##_judge, side##_order, side##_judge_trace, side##_replay, side##_replay_words, side##_rewrite
 
 static const struct {
@@ -49,8 +57,9 @@ static const struct {
                    { "best C", CALLS_OF(best) },
                    { "best C with a plain search", CALLS_OF(plain) } };
 
-static const char *const call_names[CALLS] = { "judge", "order", "judge_trace", "replay", "replay_words", "rewrite" };
-static const char *const group_names[GROUPS] = { "calls", "words", "transitions", "delay", "trace", "replay", "stack" };
+static const char *const call_names[CALLS] = { "judge",   "order",        "judge_trace", "replay",       "replay_words",
+                                               "rewrite", "player_start", "player_time", "player_input", "player_output" };
+static const char *const group_names[GROUPS] = { "calls", "words", "moves", "transitions", "delay", "trace", "replay", "stack" };
 
 static uint8_t room16[2 * SANDGUSSET_MAX_STEPS], room32[8 * SANDGUSSET_MAX_STEPS], room_file[SANDGUSSET_MAX_FILE];
 
@@ -78,8 +87,33 @@ static uint64_t one_by_one(enum side side, const struct work *w)
     return answer;
 }
 
+/* A move from the work's own configuration and records: the records that wait and one place more are laid out anew. */
+static uint64_t move(enum side side, const struct work *w)
+{
+    static uint8_t config[SANDGUSSET_PLAYER_CONFIG_BYTES], waiting[SANDGUSSET_PLAYER_WAITING_BYTES];
+    size_t held = SANDGUSSET_PLAYER_RECORD_BYTES * (size_t)sandgusset_get16(w->config, 2);
+    memcpy(config, w->config, sizeof config);
+    memcpy(waiting, w->waiting, held);
+    switch (w->call) {
+    case START:
+        return (side == LIBRARY ? sandgusset_player_start : base_player_start)(w->file, w->file_len, config, sizeof config,
+                                                                               waiting, sizeof waiting);
+    case TIME:
+        return (side == LIBRARY ? sandgusset_player_time : base_player_time)(w->file, w->file_len, config, sizeof config,
+                                                                             waiting, sizeof waiting, w->move);
+    case INPUT:
+        return (side == LIBRARY ? sandgusset_player_input : base_player_input)(w->file, w->file_len, config, sizeof config,
+                                                                               waiting, sizeof waiting, (uint16_t)w->move);
+    default:
+        return (side == LIBRARY ? sandgusset_player_output : base_player_output)(w->file, w->file_len, config, sizeof config,
+                                                                                 waiting, sizeof waiting);
+    }
+}
+
 static uint64_t perform(enum side side, const struct work *w)
 {
+    if (w->call >= START)
+        return move(side, w);
     switch (w->call) {
     case JUDGE:
         return sides[side].judge(w->file, w->file_len, room16, SANDGUSSET_TRACE_BYTES, room32, SANDGUSSET_STAMP_BYTES);
@@ -99,10 +133,16 @@ static uint64_t perform(enum side side, const struct work *w)
     }
 }
 
-/* The two builds of the best C differ in their search alone. */
+/* The best C has no player. */
+static int has(enum side side, const struct work *w)
+{
+    return w->call < START || side == LIBRARY || side == PLAIN_C;
+}
+
+/* Its two builds differ in their search alone. */
 static int is_run(enum side side, const struct work *w)
 {
-    return side != PLAIN_SEARCH || w->call == JUDGE || w->call == ORDER;
+    return has(side, w) && (side != PLAIN_SEARCH || w->call == JUDGE || w->call == ORDER);
 }
 
 /* ---- time ---- */
@@ -218,7 +258,9 @@ static void tell_stacks(void)
 {
     static const size_t limits[CALLS] = { SANDGUSSET_STACK_JUDGE, SANDGUSSET_STACK_ORDER, SANDGUSSET_STACK_JUDGE_TRACE,
                                           SANDGUSSET_STACK_REPLAY, SANDGUSSET_STACK_REPLAY_WORDS,
-                                          SANDGUSSET_STACK_REWRITE };
+                                          SANDGUSSET_STACK_REWRITE, SANDGUSSET_STACK_PLAYER_START,
+                                          SANDGUSSET_STACK_PLAYER_TIME, SANDGUSSET_STACK_PLAYER_INPUT,
+                                          SANDGUSSET_STACK_PLAYER_OUTPUT };
     size_t empty = stack_used(NULL), most[CALLS] = { 0 };
     for (unsigned i = 0; i < work_count; i++) {
         size_t used = stack_used(&works[i]);
@@ -274,6 +316,8 @@ static void tell_wrongs(void)
 {
     for (unsigned i = 0; i < work_count; i++)
         for (int side = LIBRARY; side < SIDES; side++) {
+            if (!has((enum side)side, &works[i]))
+                continue;
             uint64_t answer = perform((enum side)side, &works[i]);
             if (sandgusset_status(answer) != works[i].wanted)
                 printf("wrong\tthe %s answers status %u to '%s', wanted %u\n", sides[side].name, sandgusset_status(answer),

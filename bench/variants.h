@@ -1,8 +1,8 @@
 /* The wrong versions that bench/sandgusset.c holds when it is compiled with -DSANDGUSSET_VARIANTS.
  * VARIANT(name, what it does wrong); the first has number 1. TWIN names a mistake of the same list that here one call
  * makes alone, all others being right: sandgusset_order, its own name being ORDER_ and that one, or
- * sandgusset_replay_words, with WORDS_. LETTERS is a mistake about output letters that the verdict on a trace makes alone,
- * with TRACE_ before its name, and the verdict on a table, with TABLE_. */
+ * sandgusset_replay_words, with WORDS_, or the four calls of the player, with PLAYER_. LETTERS is a mistake about output
+ * letters that the verdict on a trace makes alone, with TRACE_ before its name, and the verdict on a table, with TABLE_. */
 #ifndef SANDGUSSET_VARIANTS_H
 #define SANDGUSSET_VARIANTS_H
 
@@ -59,6 +59,31 @@
     TWIN(VARIANT, REPLAY_WRITES_NOTHING, "words: useless: writes marks alone") \
     TWIN(VARIANT, FIRST_STEP_ONLY, "words: useless: orders each word's first step and copies the rest") \
     TWIN(VARIANT, EMPTY_TABLE_READ, "words: useless: always takes the empty table")
+
+#define SANDGUSSET_PLAYER_TWIN_LIST(TWIN, VARIANT) \
+    TWIN(VARIANT, WRITES_ON_READ, "player: writes to the records when the file is refused") \
+    TWIN(VARIANT, WRITES_ON_8, "player: writes to a room that is too short") \
+    TWIN(VARIANT, READS_AFTER, "player: reads the byte after the records") \
+    TWIN(VARIANT, WRITES_BEFORE, "player: changes the byte before the configuration") \
+    TWIN(VARIANT, STORES_IN_FILE, "player: stores in the file what it holds") \
+    TWIN(VARIANT, ROOM_ROUNDED_UP, "player: rounds room up to whole records") \
+    TWIN(VARIANT, NO_5, "player: doesn't test for repeated transitions") \
+    TWIN(VARIANT, TRANSITION_257, "player: accepts a 257th transition") \
+    TWIN(VARIANT, TAIL_ACCEPTED, "player: accepts bytes after the end record") \
+    TWIN(VARIANT, LENGTHS_32, "player: cuts lengths to 32 bits") \
+    TWIN(VARIANT, INITIAL_0, "player: takes state 0 for the initial state") \
+    TWIN(VARIANT, UNREACHABLE_JUDGED, "player: takes a split that can't be reached for one") \
+    TWIN(VARIANT, REACH_30, "player: finds states within 30 steps only") \
+    TWIN(VARIANT, TOUCHING_SPLITS, "player: takes guards that only touch for overlapping") \
+    TWIN(VARIANT, LIKE_ARRIVALS, "player: like outputs, arrivals and delays excuse a split") \
+    TWIN(VARIANT, LIKE_OUTPUTS, "player: like outputs excuse a split") \
+    TWIN(VARIANT, GAP_U_ACCEPTED, "player: takes a guard for open at exactly u") \
+    TWIN(VARIANT, GAP_V_REFUSED, "player: takes a guard for closed at exactly v") \
+    TWIN(VARIANT, STEP_FROM_0, "player: counts steps from 0") \
+    TWIN(VARIANT, TIE_TO_LATER, "player: of several due responses issues that of the highest step") \
+    TWIN(VARIANT, UNUSED_CLEARED, "player: clears the records beyond the waiting ones") \
+    TWIN(VARIANT, REFUSES_ALL, "player: useless: refuses everything") \
+    TWIN(VARIANT, EMPTY_TABLE_READ, "player: useless: always takes the empty table")
 
 #define SANDGUSSET_LETTERS_LIST(LETTERS, VARIANT) \
     LETTERS(VARIANT, LIKE_COUNTED, "counts pairs with like letters") \
@@ -220,12 +245,117 @@
     VARIANT(WORDS_MARKS_OF_4, "words: asks for four bytes a mark") \
     VARIANT(WORDS_UNNAMED, "words: names no number of words") \
     VARIANT(WORDS_ACCEPTED_NAMED, "words: names the number of accepted words") \
-    VARIANT(WORDS_STEPS_NAMED, "words: names the steps too")
+    VARIANT(WORDS_STEPS_NAMED, "words: names the steps too") \
+    SANDGUSSET_PLAYER_TWIN_LIST(SANDGUSSET_VARIANT_OF_PLAYER_TWIN, VARIANT) \
+    VARIANT(PLAYER_START_SPLIT, "player: starts on a split table") \
+    VARIANT(PLAYER_START_LOOKS, "player: refuses to start over a damaged configuration") \
+    VARIANT(PLAYER_START_15, "player: refuses to start with 15 where fewer than 10 bytes are lent") \
+    VARIANT(PLAYER_START_WITHOUT_ROOM, "player: starts without room for records") \
+    VARIANT(PLAYER_START_KEEPS_TIMER, "player: leaves the timer at the start") \
+    VARIANT(PLAYER_START_CLEARS, "player: clears the records at the start") \
+    VARIANT(PLAYER_13_BEFORE_8, "player: at the start tests 13 before 8") \
+    VARIANT(PLAYER_STATE_UNTESTED, "player: accepts a state that is not in the table") \
+    VARIANT(PLAYER_STATE_32, "player: accepts any state below 32") \
+    VARIANT(PLAYER_UNREACHED_DAMAGED, "player: takes a state that can't be reached for damaged") \
+    VARIANT(PLAYER_TIMER_UNTESTED, "player: accepts a timer above 4,096 ticks") \
+    VARIANT(PLAYER_TIMER_OVER_4096, "player: accepts a timer of 4,096 ticks and 1/256") \
+    VARIANT(PLAYER_TIMER_AT_4096, "player: takes a timer of 4,096 ticks for damaged") \
+    VARIANT(PLAYER_INPUTS_513_TAKEN, "player: takes 513 inputs for undamaged") \
+    VARIANT(PLAYER_INPUTS_512_DAMAGED, "player: takes 512 inputs for damaged") \
+    VARIANT(PLAYER_WAITING_241_TAKEN, "player: takes 241 waiting for undamaged where so many are lent") \
+    VARIANT(PLAYER_WAITING_240_DAMAGED, "player: takes 240 waiting for damaged") \
+    VARIANT(PLAYER_LENT_UNTESTED, "player: refuses more waiting than lent with 8") \
+    VARIANT(PLAYER_STEP_0, "player: accepts step 0") \
+    VARIANT(PLAYER_STEP_EQUAL, "player: accepts equal steps") \
+    VARIANT(PLAYER_STEPS_UNTESTED, "player: doesn't test whether steps rise") \
+    VARIANT(PLAYER_STEP_ABOVE, "player: accepts steps above the inputs so far") \
+    VARIANT(PLAYER_STEP_BELOW_INPUTS, "player: takes the step of the last input for damaged") \
+    VARIANT(PLAYER_LEFT_UNTESTED, "player: accepts any time left") \
+    VARIANT(PLAYER_LEFT_OVER_240, "player: accepts a time left of 240 ticks and 1/256") \
+    VARIANT(PLAYER_LEFT_AT_240, "player: takes a time left of 240 ticks for damaged") \
+    VARIANT(PLAYER_LETTER_TESTED, "player: takes a record's letter above 255 for damaged") \
+    VARIANT(PLAYER_FIRST_TESTED, "player: tests the first waiting record alone") \
+    VARIANT(PLAYER_LAST_UNTESTED, "player: doesn't test the last waiting record") \
+    VARIANT(PLAYER_BEYOND_TESTED, "player: tests a record beyond the waiting ones") \
+    VARIANT(PLAYER_SHORT_CONFIG_8, "player: refuses a move whose configuration has fewer than 10 bytes with 8") \
+    VARIANT(PLAYER_CONFIG_9, "player: takes a configuration of 9 bytes for enough") \
+    VARIANT(PLAYER_CONFIG_12, "player: asks for a configuration of 12 bytes") \
+    VARIANT(PLAYER_CONFIG_EXACT, "player: refuses a configuration of more than 10 bytes") \
+    VARIANT(PLAYER_CONFIG_TAIL_CLEARED, "player: overwrites the configuration after its tenth byte") \
+    VARIANT(PLAYER_RECORDS_239, "player: takes 239 records for enough") \
+    VARIANT(PLAYER_RECORDS_241, "player: asks for 241 records") \
+    VARIANT(PLAYER_ROOM_AS_NEEDED, "player: asks for as many records as a move needs") \
+    VARIANT(PLAYER_8_BEFORE_15, "player: tests 8 before a damaged configuration") \
+    VARIANT(PLAYER_13_FIRST, "player: tests every move for a split table, right after its file") \
+    VARIANT(PLAYER_11_BEFORE_10, "player: tests 11 before 10") \
+    VARIANT(PLAYER_13_BEFORE_11, "player: tests 13 before 11") \
+    VARIANT(PLAYER_14_BEFORE_13, "player: tests 14 before 13") \
+    VARIANT(PLAYER_15_BEFORE_14, "player: tests for 241 waiting before 14") \
+    VARIANT(PLAYER_TIME_13, "player: refuses time on a split table") \
+    VARIANT(PLAYER_OUTPUT_13, "player: refuses an output on a split table") \
+    VARIANT(PLAYER_TIME_0_REFUSED, "player: refuses time 0") \
+    VARIANT(PLAYER_TIME_0_WHILE_DUE, "player: refuses time 0 while a response is due") \
+    VARIANT(PLAYER_TIME_BEFORE_NEXT, "player: refuses time up to the next due response") \
+    VARIANT(PLAYER_TIME_ONE_MORE, "player: lets time pass the next due response by 1/256 tick") \
+    VARIANT(PLAYER_TIME_PASSES, "player: lets time pass due responses") \
+    VARIANT(PLAYER_TIME_CUT, "player: cuts time at the next due response") \
+    VARIANT(PLAYER_TIME_BY_FIRST, "player: takes the lowest step for the next due response") \
+    VARIANT(PLAYER_TIME_BY_LAST, "player: takes the highest step for the next due response") \
+    VARIANT(PLAYER_TIME_TO_TIMER, "player: refuses time beyond the timer's end") \
+    VARIANT(PLAYER_TIME_16, "player: keeps 16 bits of time") \
+    VARIANT(PLAYER_TIME_OFF_FIRST, "player: takes time off the first waiting response alone") \
+    VARIANT(PLAYER_TIME_OFF_ALL, "player: takes time off records that don't wait") \
+    VARIANT(PLAYER_TIMER_WRAPS, "player: wraps the timer at 2^32") \
+    VARIANT(PLAYER_TIMER_UNSTOPPED, "player: counts the timer on beyond 4,096 ticks") \
+    VARIANT(PLAYER_TIMER_STOPS_AT_4095, "player: stops the timer at 4,095 ticks") \
+    VARIANT(PLAYER_TIMER_BACK_TO_0, "player: begins the timer again after 4,096 ticks") \
+    VARIANT(PLAYER_TIMER_STANDS, "player: leaves the timer where it would pass 4,096 ticks") \
+    VARIANT(PLAYER_WHOLE_TICKS, "player: compares the timer in whole ticks") \
+    VARIANT(PLAYER_GUARD_PAST_V, "player: takes a guard for open at v and 1/256") \
+    VARIANT(PLAYER_ANY_STATE, "player: takes a transition that leaves another state") \
+    VARIANT(PLAYER_ANY_LETTER, "player: takes a transition with another letter") \
+    VARIANT(PLAYER_INPUT_8_BITS, "player: keeps 8 bits of an input letter") \
+    VARIANT(PLAYER_HIGHEST_OPEN, "player: of several open transitions takes the highest") \
+    VARIANT(PLAYER_TWO_OPEN_13, "player: gives 13 only where two transitions are open, and in states that can't be reached too") \
+    VARIANT(PLAYER_SPLIT_IF_OPEN, "player: gives 13 for an input only where two transitions are open to it") \
+    VARIANT(PLAYER_INPUT_SPLIT, "player: takes inputs on a split table") \
+    VARIANT(PLAYER_INPUT_WHILE_DUE, "player: takes an input while a response is due") \
+    VARIANT(PLAYER_DUE_BY_FIRST, "player: asks the lowest step alone whether it is due") \
+    VARIANT(PLAYER_INPUT_513, "player: takes a 513th input") \
+    VARIANT(PLAYER_INPUT_511, "player: refuses a 512th input") \
+    VARIANT(PLAYER_INPUT_241, "player: lets 241 wait") \
+    VARIANT(PLAYER_INPUT_239, "player: refuses to let 240 wait") \
+    VARIANT(PLAYER_WAITING_UNTESTED, "player: lets as many wait as are lent") \
+    VARIANT(PLAYER_INPUTS_UNCOUNTED, "player: doesn't count inputs") \
+    VARIANT(PLAYER_WAITING_UNCOUNTED, "player: doesn't count the new response") \
+    VARIANT(PLAYER_TIMER_KEPT, "player: an input doesn't reset the timer") \
+    VARIANT(PLAYER_STATE_KEPT, "player: an input doesn't change the state") \
+    VARIANT(PLAYER_STEP_BY_WAITING, "player: numbers a response among the waiting ones") \
+    VARIANT(PLAYER_LETTER_OF_INPUT, "player: a response has the input's letter") \
+    VARIANT(PLAYER_LEFT_IN_TICKS, "player: takes d for parts of a tick") \
+    VARIANT(PLAYER_LEFT_LESS_TIMER, "player: counts d from the input before") \
+    VARIANT(PLAYER_NEW_FIRST, "player: puts a new response before the others") \
+    VARIANT(PLAYER_TRANSITION_UNNAMED, "player: an input names no transition") \
+    VARIANT(PLAYER_TRANSITION_FROM_1, "player: counts the transition of an input from 1") \
+    VARIANT(PLAYER_STEP_NAMED, "player: an input names its step too") \
+    VARIANT(PLAYER_OUTPUT_BEFORE_DUE, "player: issues the next response though it is not due") \
+    VARIANT(PLAYER_NOT_MOVED, "player: doesn't move later records down") \
+    VARIANT(PLAYER_LAST_INTO_GAP, "player: moves the last record to the freed place") \
+    VARIANT(PLAYER_MOVES_ALL, "player: moves records down that don't wait") \
+    VARIANT(PLAYER_FREED_CLEARED, "player: clears the freed last record") \
+    VARIANT(PLAYER_OUTPUT_KEEPS_WAITING, "player: an output leaves the number of waiting responses") \
+    VARIANT(PLAYER_OUTPUT_RESETS_TIMER, "player: an output resets the timer") \
+    VARIANT(PLAYER_OUTPUT_UNCOUNTS, "player: an output counts an input less") \
+    VARIANT(PLAYER_LETTER_8_BITS, "player: an output names 8 bits of a letter") \
+    VARIANT(PLAYER_LETTER_UNNAMED, "player: an output names no letter") \
+    VARIANT(PLAYER_WAITING_NAMED, "player: an output names how many wait") \
+    VARIANT(PLAYER_DOES_NOTHING, "player: useless: says played to all and changes nothing")
 
 #define SANDGUSSET_VARIANT_OF_TRACE(VARIANT, name, what) VARIANT(TRACE_##name, "trace: " what)
 #define SANDGUSSET_VARIANT_OF_TABLE(VARIANT, name, what) VARIANT(TABLE_##name, "table: " what)
 #define SANDGUSSET_VARIANT_OF_TWIN(VARIANT, name, what) VARIANT(ORDER_##name, what)
 #define SANDGUSSET_VARIANT_OF_WORDS_TWIN(VARIANT, name, what) VARIANT(WORDS_##name, what)
+#define SANDGUSSET_VARIANT_OF_PLAYER_TWIN(VARIANT, name, what) VARIANT(PLAYER_##name, what)
 #define SANDGUSSET_VARIANT_NUMBER(name, what) V_##name,
 enum { V_NONE, SANDGUSSET_VARIANT_LIST(SANDGUSSET_VARIANT_NUMBER) V_COUNT };
 

@@ -296,6 +296,43 @@ static void make_replays(void)
     new_night(BY_WORDS, REPLAY, "replay: 256 words of 512 steps, one by one", SANDGUSSET_REPLAYED, 256);
 }
 
+/* State 0 after so many inputs, so many responses waiting. The last one has `left`, the others a tick more. */
+static void lay_out(struct work *w, unsigned inputs, unsigned waiting, uint32_t timer, uint32_t left)
+{
+    sandgusset_put16(w->config, 1, (uint16_t)inputs);
+    sandgusset_put16(w->config, 2, (uint16_t)waiting);
+    sandgusset_put16(w->config, 3, (uint16_t)(timer & 0xFFFF));
+    sandgusset_put16(w->config, 4, (uint16_t)(timer >> 16));
+    for (unsigned i = 0; i < waiting; i++) {
+        sandgusset_put16(w->waiting, 4 * i, (uint16_t)(inputs - waiting + i + 1));
+        sandgusset_put16(w->waiting, 4 * i + 1, (uint16_t)(i % 256));
+        sandgusset_put32(w->waiting, 2 * i + 1, i + 1 < waiting ? left + 256 : left);
+    }
+}
+
+/* The four moves, on an everyday table with three waiting and on a full one with 239. */
+static void make_moves(void)
+{
+    static const struct { enum call call; const char *name; uint32_t left, move; } moves[] = {
+        { START, "start", 0, 0 }, { TIME, "time", 512, 256 }, { INPUT, "input", 512, 0 }, { OUTPUT, "output", 0, 0 }
+    };
+    for (unsigned i = 0; i < sizeof moves / sizeof moves[0]; i++) {
+        char name[80];
+        snprintf(name, sizeof name, "player: %s, everyday, 12 transitions, 3 wait", moves[i].name);
+        struct work *w = without_goal(new_work(BY_MOVE, moves[i].call, name, SANDGUSSET_PLAYED));
+        everyday_table(w, 0);
+        lay_out(w, 3, 3, 6 * 256, moves[i].left);
+        w->move = moves[i].move;
+        w->against = PLAIN_C;
+        snprintf(name, sizeof name, "player: %s, 256 transitions, 239 wait", moves[i].name);
+        w = without_goal(new_work(BY_MOVE, moves[i].call, name, SANDGUSSET_PLAYED));
+        full_table(w, 256, 240, 0, PAST_CORE);
+        lay_out(w, 239, 239, 2 * 256, moves[i].left);
+        w->move = moves[i].move;
+        w->against = PLAIN_C;
+    }
+}
+
 static void make_verdicts_on_traces(void)
 {
     struct work *w;
@@ -368,6 +405,7 @@ void make_works(void)
 {
     make_tables();
     make_replays();
+    make_moves();
     make_verdicts_on_traces();
     make_growth();
     make_for_stack();

@@ -4,13 +4,13 @@
 
 #include "sandgusset.h"
 
-enum call { JUDGE, ORDER, JUDGE_TRACE, REPLAY, REPLAY_WORDS, REWRITE, CALLS };
+enum call { JUDGE, ORDER, JUDGE_TRACE, REPLAY, REPLAY_WORDS, REWRITE, START, TIME, INPUT, OUTPUT, CALLS };
 
 /* Whose times stand side by side. The two last ones are bench/best.c; they differ on whole tables alone. */
 enum side { LIBRARY, PLAIN_C, BEST, PLAIN_SEARCH, SIDES };
 
 /* Groups of rows; what is in the last one is not timed. */
-enum group { BY_CALL, BY_WORDS, BY_TRANSITIONS, BY_DELAY, BY_TRACE, BY_REPLAY, FOR_STACK, GROUPS };
+enum group { BY_CALL, BY_WORDS, BY_MOVE, BY_TRANSITIONS, BY_DELAY, BY_TRACE, BY_REPLAY, FOR_STACK, GROUPS };
 
 struct work {
     char name[80];
@@ -26,6 +26,8 @@ struct work {
     uint8_t stamps[4 * SANDGUSSET_MAX_STEPS];
     size_t stamps_len;
     unsigned words;             /* so many of the night; in a replay one by one, instead of its own stamps */
+    uint8_t config[SANDGUSSET_PLAYER_CONFIG_BYTES], waiting[SANDGUSSET_PLAYER_WAITING_BYTES];
+    uint32_t move;              /* parts of time, or a letter */
     double time[SIDES];
 };
 

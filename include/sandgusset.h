@@ -1,6 +1,6 @@
 /* sandgusset.h - judges controller tables from C.
  *
- * Six calls on plain numbers and byte buffers. Every call answers for every input, and its answer depends on what it
+ * Ten calls on plain numbers and byte buffers. Every call answers for every input, and its answer depends on what it
  * is handed alone.
  *
  * WHAT IS LENT
@@ -22,8 +22,8 @@
  *   One 64-bit number that holds four fields of 16 bits, lowest first: status, first, second, steps. Fields that are
  *   not named for an answer are 0. Take it apart with sandgusset_status, _first, _second and _steps.
  *
- *   status 0           done: strict, in order, steady, replayed or written (see each call)
- *   status 1 to 9      refused with this number; first is the place
+ *   status 0           done: strict, in order, steady, replayed, written or played (see each call)
+ *   status 1 to 15     refused with this number; first is the place
  *   status 256         split (only sandgusset_judge)
  *   status 257         turning (sandgusset_judge and sandgusset_judge_trace)
  *   status 258         overtaken (only sandgusset_order)
@@ -41,10 +41,16 @@
  *      words: more than 256, or not a multiple of four bytes
  *   8  a lent room is too short
  *   9  a gap outside its guard
+ *  10  the player: no transition is open to this input
+ *  11  the player: not now: time would pass the next due response, no response is due for an output, or one is due at an
+ *      input
+ *  13  the player: the table is split
+ *  14  the player: a 513th input
+ *  15  the player: the configuration is damaged, or an input would make 241 responses wait
  *   For 1 to 5 the place (first) is the offset in the file of the refused record, or of the first byte after the end
- *   record. For 9 it is the first such step, counted from 1. For 6, 7 and 8 it is 0. The file is tested first, then
+ *   record. For 9 it is the first such step, counted from 1. For all others it is 0. The file is tested first, then
  *   6, 7, 8 and 9 in this order, as far as they apply to the call. sandgusset_replay_words is never refused with 9: it
- *   marks each such word.
+ *   marks each such word. The player has an order of its own (see THE PLAYER). 12 is not given.
  *
  * THE TABLE FILE
  *   Records: two bytes of length (counting all that follow them), two bytes of kind, the body, all in numbers of two
@@ -66,6 +72,34 @@
  *   told apart and come in one order under some word that activates the trace, in the other under another. Responses with
  *   like letters may change places: that makes no trace and no table turn. sandgusset_order and the replays count every
  *   step, whatever its letter.
+ *
+ * THE PLAYER
+ *   Four calls play a table move by move: sandgusset_player_start, then _time, _input and _output as often as the host
+ *   likes. Between the moves all is in two buffers of the host, handed in again with each move on the same file:
+ *   - config, the configuration, at least 10 bytes: state (2 bytes), inputs so far (2), how many responses wait (2), and
+ *     the timer (4), the time since the last input, or since the start, in 1/256 tick. The timer stops counting at 4,096
+ *     ticks. Bytes after the tenth are never touched.
+ *   - waiting, at least 240 records of 8 bytes: step (2 bytes, counted from 1), output letter (2), time left (4), in 1/256
+ *     tick. The responses that wait stand in its first records, in rising step order; records beyond them keep what they
+ *     held. From a start never more wait than the table's greatest d over its least u, rounded up: 240 are enough.
+ *   sandgusset_get_config, sandgusset_get_waiting and sandgusset_time_to_next below read them. A copy of the two buffers
+ *   is a copy of the player: a host may go back to it.
+ *   Each call tests what it is handed, in this order, as far as it applies to the call, and is refused for the first
+ *   that fails; then both buffers keep what they held.
+ *     1 to 5  the table file
+ *     15      the configuration (not at the start, which does not look at it): fewer than 10 bytes, a state that is not in
+ *             the table, a timer above 4,096 ticks, more than 512 inputs, more waiting than 240 or than records are lent,
+ *             steps that do not rise within 1 to the inputs so far, a time left above 240 ticks. A record's letter is
+ *             never tested
+ *     8       fewer than 240 whole records are lent; at the start also fewer than 10 bytes for the configuration
+ *     10      an input that no transition is open to
+ *     11      time that would pass the next due response; an output with none due; an input while a response is due
+ *     13      the start of, or an input to, a table that is split (sandgusset_judge says 256)
+ *     14      a 513th input
+ *     15      an input that would make 241 wait. No configuration that was played from a start gives this
+ *   After any accepted moves from a start, with at least one input, that end with none waiting, the outputs are those of
+ *   sandgusset_replay on the transitions taken, the gaps being the times between the inputs: the same steps in the same
+ *   order, at the same times since the start, each with its transition's output letter.
  */
 #ifndef SANDGUSSET_H
 #define SANDGUSSET_H
@@ -78,18 +112,19 @@ extern "C" {
 #endif
 
 /* The version: a minor one adds calls and numbers, a major one changes what a call means (CHANGELOG.md). */
-#define SANDGUSSET_VERSION "2.0.3"
+#define SANDGUSSET_VERSION "2.1.0"
 #define SANDGUSSET_VERSION_MAJOR 2
-#define SANDGUSSET_VERSION_MINOR 0
-#define SANDGUSSET_VERSION_PATCH 3
+#define SANDGUSSET_VERSION_MINOR 1
+#define SANDGUSSET_VERSION_PATCH 0
 
 /* Values of the status field. */
-#define SANDGUSSET_DONE 0           /* strict, in order, steady, replayed or written */
+#define SANDGUSSET_DONE 0           /* strict, in order, steady, replayed, written or played */
 #define SANDGUSSET_STRICT 0         /* sandgusset_judge: neither split nor turning */
 #define SANDGUSSET_IN_ORDER 0       /* sandgusset_order: no step can be overtaken */
 #define SANDGUSSET_STEADY 0         /* sandgusset_judge_trace: no pair of steps turns */
 #define SANDGUSSET_REPLAYED 0       /* sandgusset_replay; sandgusset_replay_words: first is the number of words */
 #define SANDGUSSET_WRITTEN 0        /* sandgusset_rewrite: first is the number of bytes */
+#define SANDGUSSET_PLAYED 0         /* the player: first is an input's transition, an output's step (second: its letter) */
 #define SANDGUSSET_BAD_RECORD 1     /* first: offset of the record */
 #define SANDGUSSET_BAD_KIND 2       /* first: offset of the record, or of the first byte after the end */
 #define SANDGUSSET_TOO_MANY 3       /* first: offset of the record */
@@ -99,6 +134,11 @@ extern "C" {
 #define SANDGUSSET_BAD_STAMPS 7     /* first: 0 */
 #define SANDGUSSET_NO_ROOM 8        /* first: 0 */
 #define SANDGUSSET_BAD_GAP 9        /* first: the step, counted from 1 */
+#define SANDGUSSET_NOT_OPEN 10      /* first: 0 */
+#define SANDGUSSET_NOT_NOW 11       /* first: 0 */
+#define SANDGUSSET_SPLIT_TABLE 13   /* first: 0 */
+#define SANDGUSSET_INPUTS_OVER 14   /* first: 0 */
+#define SANDGUSSET_BAD_CONFIG 15    /* first: 0 */
 #define SANDGUSSET_SPLIT 256        /* first, second: transition numbers I and J; steps: length of the traces */
 #define SANDGUSSET_TURNING 257      /* first, second: step numbers K and M; steps: length of the trace */
 #define SANDGUSSET_OVERTAKEN 258    /* first, second: step numbers K and M; steps: length of the trace */
@@ -113,15 +153,25 @@ extern "C" {
 #define SANDGUSSET_TRACE_BYTES 540
 #define SANDGUSSET_STAMP_BYTES 2160
 #define SANDGUSSET_ORDER_BYTES 1080
+#define SANDGUSSET_MAX_INPUTS 512       /* inputs of the player from a start */
+#define SANDGUSSET_MAX_TIMER 1048576    /* where the player's timer stops: 4,096 ticks, in 1/256 tick */
+#define SANDGUSSET_PLAYER_CONFIG_BYTES 10   /* bytes of the player's configuration */
+#define SANDGUSSET_PLAYER_RECORD_BYTES 8    /* bytes of a waiting response */
+#define SANDGUSSET_PLAYER_RECORDS 240       /* records that the player needs: 1,920 bytes */
+#define SANDGUSSET_PLAYER_WAITING_BYTES 1920
 
 /* Bytes of stack: each call uses less. Not counted are some KB that the system's loader takes at a first call in a program
  * that binds its functions late (linked without -z now). */
 #define SANDGUSSET_STACK_JUDGE 61440
-#define SANDGUSSET_STACK_ORDER 59392
+#define SANDGUSSET_STACK_ORDER 60416
 #define SANDGUSSET_STACK_JUDGE_TRACE 12288
 #define SANDGUSSET_STACK_REPLAY 9216
-#define SANDGUSSET_STACK_REPLAY_WORDS 9216
+#define SANDGUSSET_STACK_REPLAY_WORDS 10240
 #define SANDGUSSET_STACK_REWRITE 3072
+#define SANDGUSSET_STACK_PLAYER_START 7168
+#define SANDGUSSET_STACK_PLAYER_TIME 15360
+#define SANDGUSSET_STACK_PLAYER_INPUT 15360
+#define SANDGUSSET_STACK_PLAYER_OUTPUT 15360
 
 /* Judges a whole table. Refusals: 1 to 5, 8.
  *
@@ -216,6 +266,51 @@ uint64_t sandgusset_replay_words(const uint8_t *file, size_t file_len,
 uint64_t sandgusset_rewrite(const uint8_t *file, size_t file_len,
                             uint8_t *out, size_t out_len);
 
+/* Starts the player on a table. Refusals: 1 to 5, 8, 13.
+ *
+ * Lend at least 10 bytes of configuration and 240 records (1,920 bytes); what they hold is not looked at.
+ *
+ * played  status 0. config holds the start: the initial state, no inputs, none waiting, timer 0. The records keep what they
+ *         held. */
+uint64_t sandgusset_player_start(const uint8_t *file, size_t file_len,
+                                 uint8_t *config, size_t config_len,
+                                 uint8_t *waiting, size_t waiting_len);
+
+/* Lets time pass. Refusals: 1 to 5, 15, 8, 11.
+ *
+ * parts is in 1/256 tick: at most the least time left of what waits, anything if nothing waits. 0 is accepted, also while a
+ * response is due.
+ *
+ * played  status 0. The timer is so much greater, but at most 4,096 ticks, and every waiting response has so much less time
+ *         left. */
+uint64_t sandgusset_player_time(const uint8_t *file, size_t file_len,
+                                uint8_t *config, size_t config_len,
+                                uint8_t *waiting, size_t waiting_len,
+                                uint32_t parts);
+
+/* An input now. Refusals: 1 to 5, 15, 8, 10, 11, 13, 14, 15.
+ *
+ * A transition is open if it leaves the state, has this input letter, and the timer is greater than its u and at most its v.
+ * A letter above 255 opens nothing. In a state that can't be reached several may be open: the lowest number is taken.
+ *
+ * played  status 0, first the number of the transition that is taken. The state is its arrival, the timer 0, the input is
+ *         counted, and its response waits after the others: a record with the count as its step, the output letter and d
+ *         ticks left. */
+uint64_t sandgusset_player_input(const uint8_t *file, size_t file_len,
+                                 uint8_t *config, size_t config_len,
+                                 uint8_t *waiting, size_t waiting_len,
+                                 uint16_t letter);
+
+/* Issues the response that is due now, of several that of the lowest step. Refusals: 1 to 5, 15, 8, 11.
+ *
+ * A response is due if it has no time left.
+ *
+ * played  status 0, first the step, second the output letter. One response less waits: its record is gone, those after it
+ *         have moved down by one, and the last record that was used keeps what it held. */
+uint64_t sandgusset_player_output(const uint8_t *file, size_t file_len,
+                                  uint8_t *config, size_t config_len,
+                                  uint8_t *waiting, size_t waiting_len);
+
 #ifdef __cplusplus
 }
 #endif
@@ -246,6 +341,11 @@ static inline const char *sandgusset_text(unsigned status)
     case SANDGUSSET_BAD_STAMPS: return "the number of stamps differs from the number of steps, or there are more than 256 words";
     case SANDGUSSET_NO_ROOM: return "the lent room is too short";
     case SANDGUSSET_BAD_GAP: return "a gap outside its guard";
+    case SANDGUSSET_NOT_OPEN: return "no transition is open to this input";
+    case SANDGUSSET_NOT_NOW: return "not now: a response is due first, or none is due";
+    case SANDGUSSET_SPLIT_TABLE: return "the table is split";
+    case SANDGUSSET_INPUTS_OVER: return "more than 512 inputs";
+    case SANDGUSSET_BAD_CONFIG: return "the configuration is damaged, or 241 responses would wait";
     case SANDGUSSET_SPLIT: return "split: two transitions are open to one input at one time";
     case SANDGUSSET_TURNING: return "turning: two responses that can be told apart come in either order";
     case SANDGUSSET_OVERTAKEN: return "overtaken: a step can respond before an earlier one";
@@ -316,6 +416,54 @@ static inline int sandgusset_get_transition(const uint8_t *file, size_t file_len
         return 1;
     }
     return 0;
+}
+
+/* The player's configuration: its timer is the time since the last input in 1/256 tick. */
+struct sandgusset_config {
+    uint16_t state, inputs, waiting;
+    uint32_t timer;
+};
+
+/* What the 10 bytes of a configuration say. */
+static inline struct sandgusset_config sandgusset_get_config(const uint8_t *config)
+{
+    struct sandgusset_config found;
+
+    found.state = sandgusset_get16(config, 0);
+    found.inputs = sandgusset_get16(config, 1);
+    found.waiting = sandgusset_get16(config, 2);
+    found.timer = sandgusset_get32(config + 6, 0);
+    return found;
+}
+
+/* A response that waits: its time left in 1/256 tick. */
+struct sandgusset_waiting {
+    uint16_t step, letter;
+    uint32_t left;
+};
+
+/* Record number i (from 0) of those that are lent to the player. */
+static inline struct sandgusset_waiting sandgusset_get_waiting(const uint8_t *waiting, size_t i)
+{
+    struct sandgusset_waiting found;
+
+    found.step = sandgusset_get16(waiting + 8 * i, 0);
+    found.letter = sandgusset_get16(waiting + 8 * i, 1);
+    found.left = sandgusset_get32(waiting + 8 * i, 1);
+    return found;
+}
+
+/* How far the player's time may advance now, in 1/256 tick: 0 if a response is due, 4,294,967,295 if none waits. As many
+ * records are read as the configuration says that wait: hand in one that the player has accepted. */
+static inline uint32_t sandgusset_time_to_next(const uint8_t *config, const uint8_t *waiting)
+{
+    uint32_t least = 0xFFFFFFFFu;
+    size_t i, count = sandgusset_get_config(config).waiting;
+
+    for (i = 0; i < count; i++)
+        if (sandgusset_get_waiting(waiting, i).left < least)
+            least = sandgusset_get_waiting(waiting, i).left;
+    return least;
 }
 
 #endif

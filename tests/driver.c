@@ -7,12 +7,13 @@
  *
  * Request (little-endian):
  *   4 bytes  "SGRQ"
- *   1        call: 1 judge, 2 judge_trace, 3 replay, 4 rewrite, 5 order, 6 replay_words
+ *   1        call: 1 judge, 2 judge_trace, 3 replay, 4 rewrite, 5 order, 6 replay_words, 7 player_start, 8 player_time,
+ *            9 player_input, 10 player_output
  *   1        layout: 0 forbidden pages right after each buffer, 1 right before, 2 guard bytes on both sides and an odd
  *            address (forbidden pages further off)
  *   1        1: empty buffers are NULL
- *   1        number of buffers: 3, 3, 5, 2, 3, 7, in the order of the call's arguments
- *   4        start stamp (replay only)
+ *   1        number of buffers: 3, 3, 5, 2, 3, 7, and 3 for the player, in the order of the call's arguments
+ *   4        start stamp (replay), time in 1/256 tick (player_time) or letter (player_input); 0 for the others
  *   and for each buffer
  *   8        length in bytes
  *   4        bytes of content that follow: the length, or less for a huge buffer (zeros beyond)
@@ -197,7 +198,7 @@ static void give(const void *from, size_t size)
         die("answer can't be written");
 }
 
-static uint64_t perform(int call, uint32_t start, uint8_t *const *p, const size_t *n)
+static uint64_t perform(int call, uint32_t number, uint8_t *const *p, const size_t *n)
 {
     switch (call) {
     case 1:
@@ -205,13 +206,21 @@ static uint64_t perform(int call, uint32_t start, uint8_t *const *p, const size_
     case 2:
         return sandgusset_judge_trace(p[0], n[0], p[1], n[1], p[2], n[2]);
     case 3:
-        return sandgusset_replay(p[0], n[0], p[1], n[1], start, p[2], n[2], p[3], n[3], p[4], n[4]);
+        return sandgusset_replay(p[0], n[0], p[1], n[1], number, p[2], n[2], p[3], n[3], p[4], n[4]);
     case 4:
         return sandgusset_rewrite(p[0], n[0], p[1], n[1]);
     case 5:
         return sandgusset_order(p[0], n[0], p[1], n[1], p[2], n[2]);
-    default:
+    case 6:
         return sandgusset_replay_words(p[0], n[0], p[1], n[1], p[2], n[2], p[3], n[3], p[4], n[4], p[5], n[5], p[6], n[6]);
+    case 7:
+        return sandgusset_player_start(p[0], n[0], p[1], n[1], p[2], n[2]);
+    case 8:
+        return sandgusset_player_time(p[0], n[0], p[1], n[1], p[2], n[2], number);
+    case 9:
+        return sandgusset_player_input(p[0], n[0], p[1], n[1], p[2], n[2], (uint16_t)number);
+    default:
+        return sandgusset_player_output(p[0], n[0], p[1], n[1], p[2], n[2]);
     }
 }
 
@@ -232,8 +241,8 @@ static int check_helpers(void)
 
 static void serve(void)
 {
-    static const int fixed[] = { 0, 1, 2, 3, 1, 1, 4 };     /* so many buffers, from the first, are const */
-    static const int wanted[] = { 0, 3, 3, 5, 2, 3, 7 };
+    static const int fixed[] = { 0, 1, 2, 3, 1, 1, 4, 1, 1, 1, 1 };     /* so many buffers, from the first, are const */
+    static const int wanted[] = { 0, 3, 3, 5, 2, 3, 7, 3, 3, 3, 3 };
     uint8_t head[12];
     while (take(head, sizeof head)) {
         volatile int outcome = 0;
@@ -241,8 +250,8 @@ static void serve(void)
         uint8_t *starts[BUFFERS];
         size_t lengths[BUFFERS];
         int call = head[4], layout = head[5], null_empty = head[6], count = head[7];
-        uint32_t start = sandgusset_get32(head, 2);
-        if (memcmp(head, "SGRQ", 4) != 0 || call < 1 || call > 6 || layout > LOOSE || count != wanted[call])
+        uint32_t number_given = sandgusset_get32(head, 2);
+        if (memcmp(head, "SGRQ", 4) != 0 || call < 1 || call > 10 || layout > LOOSE || count != wanted[call])
             die("not a request");
         for (int i = 0; i < count; i++) {
             struct buffer *b = &buffers[i];
@@ -272,7 +281,7 @@ static void serve(void)
             if (number == 0) {
                 in_call = 1;
                 alarm(SECONDS);
-                answer = perform(call, start, starts, lengths);
+                answer = perform(call, number_given, starts, lengths);
             } else {
                 outcome = number;
             }

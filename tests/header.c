@@ -1,4 +1,5 @@
-/* Tries what sandgusset.h works out by itself: its version, the texts, its numbers, a transition by its number.
+/* Tries what sandgusset.h works out by itself: its version, the texts, its numbers, a transition by its number, what the
+ * player's buffers say.
  *
  * It prints what failed; the last line is 'N passed, 0 failed'. Files lie right before a forbidden page.
  */
@@ -32,7 +33,7 @@ static int known(unsigned status)
 
 static void try_texts(void)
 {
-    static const unsigned all[] = { 0, 1, 2, 3, 4, 5, 6, 7, 8, 9, SANDGUSSET_SPLIT, SANDGUSSET_TURNING,
+    static const unsigned all[] = { 0, 1, 2, 3, 4, 5, 6, 7, 8, 9, 10, 11, 13, 14, 15, SANDGUSSET_SPLIT, SANDGUSSET_TURNING,
                                     SANDGUSSET_OVERTAKEN };
     const size_t count = sizeof all / sizeof all[0];
     int own = 1;
@@ -43,7 +44,8 @@ static void try_texts(void)
     }
     verdict("every status has a text of its own", own);
     verdict("0 is done", strcmp(sandgusset_text(0), "done") == 0);
-    verdict("other numbers are unknown", !known(255) && !known(259) && !known(65535) && !known(65536 + 1));
+    verdict("other numbers are unknown", !known(12) && !known(16) && !known(255) && !known(259) && !known(65535) &&
+                                             !known(65536 + 1));
     verdict("a refusal's number goes with its text", strcmp(sandgusset_text(3), "more than 256 transitions") == 0);
     verdict("turning is a matter of responses that can be told apart",
             strstr(sandgusset_text(SANDGUSSET_TURNING), "can be told apart") != NULL);
@@ -64,17 +66,27 @@ static int whole_kb(size_t bytes)
 static void try_numbers(void)
 {
     verdict("0 is every good answer", SANDGUSSET_STRICT == 0 && SANDGUSSET_IN_ORDER == 0 && SANDGUSSET_STEADY == 0 &&
-                                          SANDGUSSET_REPLAYED == 0 && SANDGUSSET_WRITTEN == 0);
+                                          SANDGUSSET_REPLAYED == 0 && SANDGUSSET_WRITTEN == 0 && SANDGUSSET_PLAYED == 0);
     verdict("overtaken is 258, and no refusal", SANDGUSSET_OVERTAKEN == 258 && !sandgusset_refused(SANDGUSSET_OVERTAKEN));
     verdict("places and their bytes", SANDGUSSET_TRACE_BYTES == 2 * SANDGUSSET_TRACE_PLACES &&
                                           SANDGUSSET_STAMP_BYTES == 4 * SANDGUSSET_STAMP_PLACES &&
                                           SANDGUSSET_ORDER_BYTES == 4 * SANDGUSSET_ORDER_PLACES);
     verdict("256 words of 512 steps", SANDGUSSET_MAX_WORDS == 256 && SANDGUSSET_MAX_STEPS == 512);
+    verdict("the player's refusals", SANDGUSSET_NOT_OPEN == 10 && SANDGUSSET_NOT_NOW == 11 && SANDGUSSET_SPLIT_TABLE == 13 &&
+                                         SANDGUSSET_INPUTS_OVER == 14 && SANDGUSSET_BAD_CONFIG == 15 && sandgusset_refused(15));
+    verdict("the player's room", SANDGUSSET_PLAYER_CONFIG_BYTES == 10 &&
+                                     SANDGUSSET_PLAYER_RECORD_BYTES == 8 && SANDGUSSET_PLAYER_RECORDS == 240 &&
+                                     SANDGUSSET_PLAYER_WAITING_BYTES == 8 * 240);
+    verdict("4,096 ticks and 512 inputs", SANDGUSSET_MAX_TIMER == 4096 * 256 && SANDGUSSET_MAX_INPUTS == 512);
     verdict("the stack of each call, in whole KB", whole_kb(SANDGUSSET_STACK_JUDGE) && whole_kb(SANDGUSSET_STACK_ORDER) &&
                                                        whole_kb(SANDGUSSET_STACK_JUDGE_TRACE) &&
                                                        whole_kb(SANDGUSSET_STACK_REPLAY) &&
                                                        whole_kb(SANDGUSSET_STACK_REPLAY_WORDS) &&
-                                                       whole_kb(SANDGUSSET_STACK_REWRITE));
+                                                       whole_kb(SANDGUSSET_STACK_REWRITE) &&
+                                                       whole_kb(SANDGUSSET_STACK_PLAYER_START) &&
+                                                       whole_kb(SANDGUSSET_STACK_PLAYER_TIME) &&
+                                                       whole_kb(SANDGUSSET_STACK_PLAYER_INPUT) &&
+                                                       whole_kb(SANDGUSSET_STACK_PLAYER_OUTPUT));
 }
 
 /* ---- transitions ---- */
@@ -166,6 +178,27 @@ static void try_records(void)
     verdict("nothing is counted after the end", finds(bytes, FILE_BYTES, 1, TRANSITIONS));
 }
 
+/* ---- what the player's buffers say, right before the forbidden page ---- */
+
+static void try_player(void)
+{
+    static const uint8_t bytes[] = { 0x02, 0x01, 0x04, 0x03, 0x02, 0x00, 0x0A, 0x09, 0x08, 0x07 };
+    static const uint8_t two[] = { 0x12, 0x11, 0x14, 0x13, 0x18, 0x17, 0x16, 0x15, 0x22, 0x21, 0x24, 0x23, 0x28, 0x27, 0x06, 0x05 };
+    uint8_t config[sizeof bytes];
+    memcpy(config, bytes, sizeof bytes);
+    memcpy(border - sizeof bytes, bytes, sizeof bytes);
+    struct sandgusset_config now = sandgusset_get_config(border - sizeof bytes);
+    verdict("a configuration", now.state == 0x0102 && now.inputs == 0x0304 && now.waiting == 2 && now.timer == 0x0708090Au);
+    memcpy(border - sizeof two, two, sizeof two);
+    struct sandgusset_waiting second = sandgusset_get_waiting(border - sizeof two, 1);
+    verdict("a waiting response", second.step == 0x2122 && second.letter == 0x2324 && second.left == 0x05062728u);
+    verdict("the time to the next", sandgusset_time_to_next(config, border - sizeof two) == 0x05062728u);
+    sandgusset_put16(config, 2, 1);
+    verdict("the time to the only one", sandgusset_time_to_next(config, border - sizeof two) == 0x15161718u);
+    sandgusset_put16(config, 2, 0);
+    verdict("none waits", sandgusset_time_to_next(config, NULL) == 0xFFFFFFFFu);
+}
+
 int main(void)
 {
     uint8_t *pages = mmap(NULL, 2 * PAGE, PROT_READ | PROT_WRITE, MAP_PRIVATE | MAP_ANONYMOUS, -1, 0);
@@ -181,6 +214,7 @@ int main(void)
     try_cuts();
     try_damage();
     try_records();
+    try_player();
     printf("%d passed, %d failed\n", passed, failed);
     return failed != 0;
 }

@@ -1,5 +1,5 @@
 #!/usr/bin/env bash
-# Builds examples/host.c and examples/night.c and runs them on the examples: what they print and their status.
+# Builds examples/host.c, night.c and bench.c and runs them on the examples: what they print and their status.
 #
 #   tests/host.sh ARCHIVE           with an archive of the library
 #   tests/host.sh --kit PREFIX      with what tools/install has put below PREFIX, as pkg-config says, on the shared object
@@ -17,7 +17,7 @@ if [ "${1-}" = --kit ]; then
     read -ra words < <(pkg-config --cflags --libs sandgusset)
     runner=$shared_runner
 fi
-for program in host night; do
+for program in host night bench; do
     "$cc" -std=c99 -O2 -Wall -Wextra -pedantic -Werror "$root/examples/$program.c" "${words[@]}" -o "$program" || exit 1
 done
 
@@ -94,5 +94,43 @@ run night "$table" there-is-none
 trouble 'a text that is not there' there-is-none
 run night "$table"
 trouble 'a wrong call' 'night FILE WORDS'
+
+# ---- A witness, move by move ----
+
+for name in source-trace download-wide; do
+    run bench "$root/examples/$name.bin"
+    [ "$status" -eq 0 ] && cmp -s out "$root/tests/host/$name.bench.out" && [ ! -s err ]
+    verdict "the witness of $name is played as stored" $?
+done
+# outputs: the responses of the last run in the order in which they were issued, without the inputs between.
+outputs() {
+    awk '/word/ { print $2 } $2 == "output" { print $5, $3, $1 }' out
+}
+# replayed: the responses that host prints for both words: step, output, due time.
+replayed() {
+    awk 'BEGIN { FS = "[|]" } NF == 2 && /[0-9]/ { for (i = 1; i <= 2; i++) { sub(/^ *[KM]? */, "", $i); word[i] = word[i] "\n" $i } }
+         END { print "late" word[1] "\nearly" word[2] }' out | awk '{ $1 = $1; print }'
+}
+for name in source-trace download-wide inputs-a-b; do
+    run host "$root/examples/$name.bin"
+    replayed >wanted
+    run bench "$root/examples/$name.bin"
+    [ "$status" -eq 0 ] && outputs | cmp -s - wanted
+    verdict "the player issues for $name what the replay says, at the same times" $?
+done
+for name in download-narrow touching map-kept; do
+    run bench "$root/examples/$name.bin"
+    [ "$status" -eq 0 ] && [ "$(cat out)" = 'strict: there are no two words to play' ] && [ ! -s err ]
+    verdict "$name has no words to play" $?
+done
+run bench "$root/examples/split.bin"
+[ "$status" -eq 0 ] && [ "$(cat out)" = 'split: there are no two words to play' ] && [ ! -s err ]
+verdict 'a split table has no words to play' $?
+run bench cut
+refused 'a bench with a cut file' 'refused 1 at 26:'
+run bench there-is-none
+trouble 'a bench without its file' there-is-none
+run bench
+trouble 'a bench, wrong call' 'bench FILE'
 
 finish

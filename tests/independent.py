@@ -1,7 +1,8 @@
 #!/usr/bin/env python3
 """The independent program: tries the calls against what documents 01 and 02 say.
 
-    independent.py DRIVER [--cases N] [--seed S] [--only CASE] [--first] [--no-fixed] [--no-random] [--run PREFIX]
+    independent.py DRIVER [--cases N] [--runs N] [--seed S] [--only CASE] [--named START] [--first] [--no-fixed] [--no-random]
+                   [--run PREFIX]
 
 It makes table files, traces, stamps and rooms, hands them to the calls through the C driver, and compares the answer
 and the final content of every lent buffer with what the documents ask for. It is written from them and keeps whole sets
@@ -9,6 +10,7 @@ of sums where a quick judge would keep one number. Of a witness that they leave 
 free. The last line is 'N passed, 0 failed'; the status is 0 exactly if nothing failed.
 """
 import argparse
+import functools
 import heapq
 import itertools
 import os
@@ -30,12 +32,15 @@ TABLE_TRACE, TABLE_STAMPS, ORDER_STAMPS = 270, 540, 270
 TURN = 1 << 32                                  # one turn of the counter
 SPLIT, TURNING, OVERTAKEN = 256, 257, 258
 JUDGE, JUDGE_TRACE, REPLAY, REWRITE, ORDER, WORDS = 1, 2, 3, 4, 5, 6
+PLAYER_START, PLAYER_TIME, PLAYER_INPUT, PLAYER_OUTPUT = PLAYER = 7, 8, 9, 10
 CALLS = {JUDGE: "judge", JUDGE_TRACE: "judge_trace", REPLAY: "replay", REWRITE: "rewrite", ORDER: "order",
-         WORDS: "replay_words"}
+         WORDS: "replay_words", PLAYER_START: "player_start", PLAYER_TIME: "player_time", PLAYER_INPUT: "player_input",
+         PLAYER_OUTPUT: "player_output"}
 BUFFERS = {JUDGE: ("file", "trace", "stamps"), JUDGE_TRACE: ("file", "trace", "stamps"),
            REPLAY: ("file", "trace", "stamps", "order", "due"), REWRITE: ("file", "out"),
            ORDER: ("file", "trace", "stamps"),
-           WORDS: ("file", "trace", "starts", "stamps", "order", "due", "marks")}
+           WORDS: ("file", "trace", "starts", "stamps", "order", "due", "marks"),
+           **{call: ("file", "config", "waiting") for call in PLAYER}}
 LENGTH_OF_KIND = {1: 6, 2: 16, 3: 2}
 
 FROM, INPUT, OUTPUT, TO, U, V, D = range(7)     # the seven numbers of a transition
@@ -71,6 +76,7 @@ def write_file(table):
     return record(1, (table.states, table.initial)) + b"".join(record(2, row) for row in table.rows) + record(3, ())
 
 
+@functools.lru_cache(maxsize=64)
 def read_file(data, length):
     """(0, table), or (number, offset). Bytes from len(data) to length are 0."""
     at, states, initial, rows = 0, None, None, []
@@ -425,7 +431,7 @@ class Want:
         if status == TURNING:
             return "turning"
         return "refused %d" % status if status else {JUDGE: "strict", JUDGE_TRACE: "steady", REPLAY: "replayed",
-                                                     REWRITE: "written", ORDER: "in order", WORDS: "replayed"}[call]
+                                                     REWRITE: "written", ORDER: "in order", WORDS: "replayed"}.get(call, "played")
 
     def text(self):
         if self.shown is not None:
@@ -558,12 +564,122 @@ def replay_words(rows, starts, stamps, order, due, marks):
             put(marks.data, struct.pack("<%dH" % words, *places)))
 
 
+# Document 02, R-5: the player
+CONFIG, RECORD = struct.Struct("<HHHI"), struct.Struct("<HHI")  # state, inputs, number waiting, timer; step, letter, time left
+MAX_INPUTS, RECORDS, MAX_TIMER, MAX_LEFT = 512, 240, 4096 * 256, 240 * 256
+
+
+@functools.lru_cache(maxsize=64)
+def is_split(data, length):
+    return find_split(read_file(data, length)[1]) is not None
+
+
+def configuration(states, config, waiting):
+    """State, inputs so far, timer and the waiting responses, (step, letter, time left) each; None if it is damaged."""
+    if config.length < CONFIG.size:
+        return None
+    state, inputs, count, timer = CONFIG.unpack_from(config.data)
+    if state >= states or timer > MAX_TIMER or inputs > MAX_INPUTS or count > RECORDS or count > waiting.length // RECORD.size:
+        return None
+    waits = [RECORD.unpack_from(waiting.data, RECORD.size * i) for i in range(count)]
+    steps = [step for step, _, _ in waits]
+    if steps != sorted(set(steps)) or not all(1 <= step <= inputs for step in steps):
+        return None
+    return None if any(left > MAX_LEFT for _, _, left in waits) else (state, inputs, timer, waits)
+
+
+def time_moved(number, state, inputs, timer, waits):
+    """Number of refusal or 0, the values named, and the next configuration."""
+    if any(left < number for _, _, left in waits):
+        return 11, (), None
+    return 0, (), (state, inputs, min(timer + number, MAX_TIMER), [(step, o, left - number) for step, o, left in waits])
+
+
+def output_moved(state, inputs, timer, waits):
+    due = [response for response in waits if response[2] == 0]
+    if not due:
+        return 11, (), None
+    return 0, min(due)[:2], (state, inputs, timer, [response for response in waits if response != min(due)])
+
+
+def input_moved(table, split, letter, state, inputs, timer, waits):
+    found = [i for i, r in enumerate(table.rows) if r[FROM] == state and r[INPUT] == letter and activates([timer], [r], 256)]
+    for refusal, given in ((10, not found), (11, any(left == 0 for _, _, left in waits)), (13, split),
+                           (14, inputs + 1 > MAX_INPUTS), (15, len(waits) + 1 > RECORDS)):
+        if given:
+            return refusal, (), None
+    row = table.rows[found[0]]
+    return 0, (found[0],), (row[TO], inputs + 1, 0, waits + [(inputs + 1, row[OUTPUT], 256 * row[D])])
+
+
+def player(call, table, number, file, config, waiting):
+    """Document 02, R-5: the answer, and what the configuration and the records hold then."""
+    room = waiting.length // RECORD.size >= RECORDS
+    kept = config.data, waiting.data
+    if call == PLAYER_START:
+        if config.length < CONFIG.size or not room:
+            return pack(8), *kept
+        if is_split(file.data, file.length):
+            return pack(13), *kept
+        return pack(0), put(config.data, CONFIG.pack(table.initial, 0, 0, 0)), waiting.data
+    now = configuration(table.states, config, waiting)
+    if now is None or not room:
+        return pack(15 if now is None else 8), *kept
+    if call == PLAYER_TIME:
+        refusal, named, after = time_moved(number, *now)
+    elif call == PLAYER_INPUT:
+        refusal, named, after = input_moved(table, is_split(file.data, file.length), number, *now)
+    else:
+        refusal, named, after = output_moved(*now)
+    if refusal:
+        return pack(refusal), *kept
+    state, inputs, timer, waits = after
+    return (pack(0, *named), put(config.data, CONFIG.pack(state, inputs, len(waits), timer)),
+            put(waiting.data, b"".join(RECORD.pack(*response) for response in waits)))
+
+
+class Past:
+    """What happened since the last start: the inputs' gaps and transitions, and the outputs with their times."""
+
+    def __init__(self, table):
+        self.table, self.begun = table, False
+
+    def add(self, call, number, answer, waits):
+        """A move and its answer, and what waits then. Document 02: never more than the ceiling of greatest d over least u."""
+        status, first, second, _ = unpack(answer)
+        if status == 0 and call == PLAYER_START:
+            self.begun, self.gaps, self.rows, self.issued, self.now, self.since, self.most = True, [], [], [], 0, 0, 0
+        elif status == 0 and self.begun:
+            if call == PLAYER_TIME:
+                self.now, self.since = self.now + number, self.since + number
+            elif call == PLAYER_INPUT:
+                self.gaps, self.rows, self.since = self.gaps + [self.since], self.rows + [self.table.rows[first]], 0
+            else:
+                self.issued.append((self.now, first, second))
+        if self.begun:
+            rows = self.table.rows
+            self.most = max(self.most, len(waits))
+            if len(waits) > (-(-max(r[D] for r in rows) // min(r[U] for r in rows)) if rows else 0):
+                raise Disagreement("what waits and the ceiling of greatest d over least u")
+            if call == PLAYER_OUTPUT and not waits and self.issued != self.conversion():
+                raise Disagreement("what the player issued and what replay gives")
+
+    def conversion(self):
+        """Replay's answer for the word of the gaps on the trace that the inputs took: time, step and letter."""
+        if self.rows and not (joined(self.rows) and activates(self.gaps, self.rows, 256)):
+            raise Disagreement("inputs that were taken and a word that activates their trace")
+        return [(due, step, self.rows[step - 1][OUTPUT]) for due, step in responses(self.gaps, self.rows, 256)]
+
+
 def law(call, start, bufs):
     """What the documents ask of a call with these buffers."""
     want = Want(bufs)
     number, table = read_file(bufs[0].data, bufs[0].length)
     if number:
         want.answer = pack(number, table)
+        return want
+    if call in PLAYER:
+        want.answer, *want.contents[1:] = player(call, table, start, *bufs)
         return want
     if call == REWRITE:
         data = write_file(table)
@@ -698,42 +814,79 @@ class Case:
         self.bufs = [b if isinstance(b, Buf) else Buf(b) for b in bufs]
 
 
+def try_layout(driver, case, want, rng, layout, null_empty):
+    """None, 'skipped', or what is wrong."""
+    names = BUFFERS[case.call]
+    guards = [rng.randbytes(GUARD) for _ in case.bufs]
+    where = "(%s%s)" % (LAYOUTS[layout], ", empty buffers NULL" if null_empty else "")
+    try:
+        outcome, answer, contents, after, agree = driver.ask(case.call, case.start, case.bufs, guards, layout, null_empty)
+    except Lost as lost:
+        return "%s %s; wanted %s" % (lost, where, want.text())
+    if outcome == NO_MEMORY:
+        return "skipped"
+    if outcome:
+        return "ended by %s %s; wanted %s" % (signal.Signals(outcome).name, where, want.text())
+    if not agree:
+        return "the header's helpers take %#x apart wrongly" % answer
+    wrong = want.check(answer, contents, names)
+    if wrong is None and case.pinned is not None:
+        if callable(case.pinned):
+            wrong = case.pinned(answer, contents)
+        elif answer != case.pinned:
+            wrong = "answer %s, the document has %s" % (show(answer), show(case.pinned))
+    if wrong is None:
+        for name, guard, is_now in zip(names, guards, after):
+            if guard != is_now:
+                wrong = "guard bytes of %s were changed" % name
+    return None if wrong is None else "%s %s" % (wrong, where)
+
+
 def try_case(driver, case, rng):
     """None, 'skipped', or what is wrong."""
     want = law(case.call, case.start, case.bufs)
-    case.kind = want.kind(case.call)
-    names = BUFFERS[case.call]
+    case.kinds = [(case.call, want.kind(case.call))]
     null = rng.randrange(2)
     layouts = [(AFTER, null), (BEFORE, 1 - null)]
     if rng.randrange(4) == 0:
         layouts.append((LOOSE, null))
     for layout, null_empty in layouts:
-        guards = [rng.randbytes(GUARD) for _ in case.bufs]
-        where = "(%s%s)" % (LAYOUTS[layout], ", empty buffers NULL" if null_empty else "")
-        try:
-            outcome, answer, contents, after, agree = driver.ask(case.call, case.start, case.bufs, guards, layout,
-                                                                 null_empty)
-        except Lost as lost:
-            return "%s %s; wanted %s" % (lost, where, want.text())
-        if outcome == NO_MEMORY:
-            return "skipped"
-        if outcome:
-            return "ended by %s %s; wanted %s" % (signal.Signals(outcome).name, where, want.text())
-        if not agree:
-            return "the header's helpers take %#x apart wrongly" % answer
-        wrong = want.check(answer, contents, names)
-        if wrong is None and case.pinned is not None:
-            if callable(case.pinned):
-                wrong = case.pinned(answer, contents)
-            elif answer != case.pinned:
-                wrong = "answer %s, the document has %s" % (show(answer), show(case.pinned))
-        if wrong is None:
-            for name, guard, is_now in zip(names, guards, after):
-                if guard != is_now:
-                    wrong = "guard bytes of %s were changed" % name
+        wrong = try_layout(driver, case, want, rng, layout, null_empty)
         if wrong is not None:
-            return "%s %s" % (wrong, where)
+            return wrong
     return None
+
+
+class Run:
+    """Moves of the player, one after the other on the same buffers. `choose` is handed the configuration (None if it is
+    damaged) and the last answer (None before the first move), and gives the next move: a call and its number, or None.
+    `pinned` is what a document says of the whole: a function of the past that returns None or what is wrong."""
+
+    def __init__(self, bufs, choose, name="", pinned=None):
+        self.bufs, self.choose, self.name, self.pinned = bufs, choose, name, pinned
+
+
+def try_run(driver, run, rng):
+    """None, 'skipped', or what is wrong. Every byte is compared after every move."""
+    file, config, waiting = (b if isinstance(b, Buf) else Buf(b) for b in run.bufs)
+    number, table = read_file(file.data, file.length)
+    past, answer, run.kinds = None if number else Past(table), None, []
+    while True:
+        now = None if number else configuration(table.states, config, waiting)
+        move = run.choose(now, answer)
+        if move is None:
+            return run.pinned(past) if run.pinned is not None else None
+        run.last = Case(move[0], [file, config, waiting], move[1])
+        want = law(move[0], move[1], run.last.bufs)
+        wrong = try_layout(driver, run.last, want, rng, rng.choice((AFTER, BEFORE, LOOSE)), rng.randrange(2))
+        run.kinds.append((move[0], want.kind(move[0])))
+        if wrong is not None:
+            return wrong if wrong == "skipped" else "move %d, %s: %s" % (len(run.kinds), CALLS[move[0]], wrong)
+        answer = want.answer
+        config, waiting = Buf(want.contents[1], config.length), Buf(want.contents[2], waiting.length)
+        if past is not None:
+            after = configuration(table.states, config, waiting)
+            past.add(move[0], move[1], answer, after[3] if after else [])
 
 
 # ---------------------------------------------------------------------------------------------------------------------
@@ -1498,6 +1651,223 @@ def case_words_wrong(rng):
                             if rng.randrange(weight) == 0])
 
 
+# Random runs of the player, one function per kind
+
+def shape_crowd(rng):
+    """Small u and great d: many wait at once."""
+    states = rng.choice((1, 1, 2, 3))
+    rows = []
+    for s in range(states):
+        for _ in range(rng.choice((1, 1, 2, 3))):
+            rows.append([s, rng.choice(((s + 1) % states, rng.randrange(states))), *guard_of(rng, rng.choice((1, 1, 2, 9)), 3),
+                         rng.choice((240, 240, 239, rng.randint(20, 240), rng.randint(1, 240)))])
+    return finish(rng, states, 0, rows)
+
+
+def unsplit_table(rng):
+    while True:
+        table = rng.choice((any_table, any_table, shape_crowd))(rng)
+        if find_split(table) is None:
+            return table
+
+
+def least_left(waits):
+    return min((left for _, _, left in waits), default=TURN - 1)
+
+
+def any_time(rng, table, state, timer, waits):
+    """Time next to what matters: the next due response, the ends of guards, the end of the timer, 32 bits."""
+    limits = [least_left(waits), MAX_TIMER - timer, TURN - 1, rng.randrange(TURN), rng.randrange(3000), 0]
+    for r in table.rows:
+        if r[FROM] == state:
+            limits += [256 * r[U] - timer, 256 * r[V] - timer]
+    return min(TURN - 1, max(0, rng.choice(limits) + rng.choice((-1, 0, 0, 0, 1, 1))))
+
+
+def any_letter(rng, table, state):
+    letters = [r[INPUT] for r in table.rows if r[FROM] == state] or [0]
+    return rng.choice(letters * 3 + [rng.randrange(256), 256 + rng.choice(letters), 65535, rng.randrange(3)])
+
+
+def any_move(rng, table, now):
+    """Any move, often one that is refused."""
+    state, _, timer, waits = now or (0, 0, 0, [])
+    call = rng.choice((PLAYER_TIME, PLAYER_TIME, PLAYER_INPUT, PLAYER_INPUT, PLAYER_OUTPUT))
+    return call, {PLAYER_TIME: any_time(rng, table, state, timer, waits),
+                  PLAYER_INPUT: any_letter(rng, table, state)}.get(call, 0)
+
+
+def likely_gap(rng, row, timer, waits):
+    """A gap in the guard that is still to come: at its ends, anywhere, or so that two due times are equal."""
+    low, high = max(timer, 256 * row[U] + 1), 256 * row[V]
+    gap = rng.choice((low, high, rng.randint(low, high), rng.randint(low, min(high, low + 2000))))
+    for _, _, left in waits:
+        if low <= timer + left - 256 * row[D] <= high and rng.randrange(3) == 0:
+            gap = timer + left - 256 * row[D]
+    return gap
+
+
+class Walk:
+    """Starts, plays so many inputs that are open, issues what falls due, and lets all come out in the end. One move in so
+    many is any move."""
+
+    def __init__(self, rng, table, inputs, astray):
+        self.rng, self.table, self.inputs, self.astray, self.goal = rng, table, inputs, astray, None
+
+    def aim(self, state, inputs, timer, waits):
+        """The letter and the gap of the next input, or None."""
+        rows = [r for r in self.table.rows if r[FROM] == state and 256 * r[V] >= timer] if inputs < self.inputs else []
+        if not rows:
+            return None
+        row = self.rng.choice(rows)
+        return inputs, row[INPUT], likely_gap(self.rng, row, timer, waits)
+
+    def __call__(self, now, answer):
+        if answer is None:
+            return PLAYER_START, 0
+        state, inputs, timer, waits = now
+        next_due = least_left(waits)
+        if self.rng.randrange(self.astray) == 0:
+            return any_move(self.rng, self.table, now)
+        if next_due == 0:
+            found = [r[INPUT] for r in self.table.rows if r[FROM] == state and activates([timer], [r], 256)]
+            return (PLAYER_INPUT, found[0]) if found and self.rng.randrange(8) == 0 else (PLAYER_OUTPUT, 0)
+        if self.goal is None or self.goal[0] != inputs or self.goal[2] < timer:
+            self.goal = self.aim(*now)
+        if self.goal is None:
+            return (PLAYER_TIME, next_due) if waits else None
+        if self.goal[2] == timer:
+            return PLAYER_INPUT, self.goal[1]
+        most = min(next_due, self.goal[2] - timer)
+        return PLAYER_TIME, most if self.rng.randrange(5) else self.rng.randint(0, most)
+
+
+class Moves:
+    """So many moves of any sort."""
+
+    def __init__(self, rng, table, count, start):
+        self.rng, self.table, self.count, self.start = rng, table, count, start
+
+    def __call__(self, now, answer):
+        self.count -= 1
+        if self.count < 0:
+            return None
+        if answer is None and self.start or self.rng.randrange(40) == 0:
+            return PLAYER_START, 0
+        return any_move(self.rng, self.table, now)
+
+
+def in_turn(moves):
+    """A choice that makes these moves, whatever they are answered."""
+    left = iter(moves)
+    return lambda now, answer: next(left, None)
+
+
+def some_config(rng):
+    return rng.randbytes(CONFIG.size + rng.choice((0, 0, 0, 0, 1, 6, 100)))
+
+
+def some_records(rng):
+    return rng.randbytes(RECORD.size * RECORDS + rng.choice((0, 0, 0, 0, 1, 7, 8, 800)))
+
+
+def run_whole(rng):
+    """From the start until none waits."""
+    table = unsplit_table(rng)
+    inputs = rng.choice((0, 1, 1, 2, 2, 3, 3, 4, 5, 8, 12, 12, 30))
+    return Run([write_file(table), some_config(rng), some_records(rng)], Walk(rng, table, inputs, rng.choice((6, 40, 1000))))
+
+
+def run_any(rng):
+    """From the start, any moves, on tables that may be split."""
+    table = rng.choice((any_table, any_table, shape_touching, shape_crowd))(rng)
+    return Run([write_file(table), some_config(rng), some_records(rng)], Moves(rng, table, rng.choice((3, 10, 20)), True))
+
+
+def forged(rng, table):
+    """State, inputs, timer and waiting responses: not damaged, but mostly such as no run comes to."""
+    inputs = rng.choice((0, 1, 2, 3, 9, 240, 241, 511, 512, 512, rng.randint(0, 512)))
+    count = min(inputs, rng.choice((0, 1, 1, 2, 2, 3, 3, 9, 60, 239, 240, 240)))
+    times = rng.choice(((0, 1, 256, 600, MAX_LEFT), (1, 1, 2, 256), (MAX_LEFT, MAX_LEFT - 1), range(MAX_LEFT + 1)))
+    waits = [(step, rng.choice((0, 255, 256, 65535, rng.randrange(256))), rng.choice(times))
+             for step in sorted(rng.sample(range(1, inputs + 1), count))]
+    state, timer = rng.randrange(table.states), rng.choice((0, 1, MAX_TIMER, MAX_TIMER - 1, rng.randint(0, MAX_TIMER)))
+    if table.rows and rng.randrange(4):
+        row = rng.choice(table.rows)
+        state, timer = row[FROM], rng.choice((256 * row[U], 256 * row[U] + 1, 256 * row[V], 256 * row[V] + 1,
+                                              rng.randint(256 * row[U], 256 * row[V]) + 1))
+    return state, inputs, timer, waits
+
+
+def damage(rng, table, state, inputs, timer, waits):
+    """The same with one number out of its range; the last is the number of waiting responses that is written."""
+    kind, count = rng.randrange(8), len(waits)
+    at = rng.randrange(count) if count else 0
+    if kind == 0:
+        state = rng.choice((table.states, table.states + 1, 32, 256, 65535))
+    elif kind == 1:
+        timer = rng.choice((MAX_TIMER + 1, MAX_TIMER + 256, TURN - 1, rng.randint(MAX_TIMER + 1, TURN - 1)))
+    elif kind == 2:
+        inputs = rng.choice((513, 514, 1024, 65535))
+    elif kind == 3:
+        count = rng.choice((241, 242, 65535, 256 + count))
+    elif count == 0:
+        count = rng.randint(1, 240)                                     # records of noise
+    elif kind == 4:
+        waits[at] = waits[at][:2] + (rng.choice((MAX_LEFT + 1, MAX_LEFT + 256, TURN - 1)),)
+    elif kind == 5:
+        waits[at] = (rng.choice((0, inputs + 1, 513, 65535)),) + waits[at][1:]
+    elif kind == 6:
+        waits[at] = (waits[at - 1][0],) + waits[at][1:]
+    else:
+        waits[at], waits[at - 1] = waits[at - 1], waits[at]
+    return state, inputs, timer, waits, count
+
+
+def run_forged(rng):
+    """A configuration that was not played, damaged or not, in rooms that are enough or not; some moves."""
+    table = rng.choice((any_table, any_table, shape_touching, shape_crowd))(rng)
+    data = damaged_file(rng) if rng.randrange(20) == 0 else write_file(table)
+    now = forged(rng, table)
+    state, inputs, timer, waits, count = damage(rng, table, *now) if rng.randrange(2) else now + (len(now[3]),)
+    config = put(some_config(rng), CONFIG.pack(state, inputs, count, timer))
+    waiting = put(some_records(rng), b"".join(RECORD.pack(*response) for response in waits))
+    if rng.randrange(8) == 0:
+        config = config[:rng.choice((0, 1, 5, 8, 9, 10))]
+    if rng.randrange(5) == 0:
+        waiting = waiting[:rng.choice((0, 7, 8, 8 * len(waits), 8 * len(waits) - 1, 1912, 1919, rng.randrange(1920)))]
+    return Run([data, config, waiting], Moves(rng, table, rng.choice((2, 4, 6)), rng.randrange(8) == 0))
+
+
+def run_edge(rng):
+    """An input to which a transition is open, next to the last refusals: due or not, split or not, as many as may be."""
+    table = Table(1, 0, [])
+    while not table.rows:
+        table = rng.choice((any_table, shape_touching, shape_crowd))(rng)
+    row, count = rng.choice(table.rows), rng.choice((0, 1, 3, 239, 240, 241))
+    inputs = max(count, rng.choice((0, 300, 511, 512)))
+    waits = [[step, rng.randrange(65536), rng.randint(1, MAX_LEFT)] for step in sorted(rng.sample(range(1, inputs + 1), count))]
+    if waits and rng.randrange(3) == 0:
+        rng.choice(waits)[2] = 0
+    config = CONFIG.pack(row[FROM], inputs, count, rng.randint(256 * row[U] + 1, 256 * row[V]))
+    waiting = b"".join(RECORD.pack(*response) for response in waits) + rng.randbytes(1920)
+    return Run([write_file(table), put(some_config(rng), config), waiting[:rng.choice((1920, 1920, 1928, 1935))]],
+               in_turn([(PLAYER_INPUT, row[INPUT]), any_move(rng, table, None), (PLAYER_OUTPUT, 0)]))
+
+
+RUNS = [(run_whole, 50), (run_any, 20), (run_forged, 40), (run_edge, 20)]
+
+
+def random_run(seed, index):
+    rng = random.Random("sandgusset player %d %d" % (seed, index))
+    make = rng.choices([k for k, _ in RUNS], [w for _, w in RUNS])[0]
+    run = make(rng)
+    run.name = "run %d (%s)" % (index, make.__name__[4:])
+    return run, rng
+
+
+# ---------------------------------------------------------------------------------------------------------------------
+
 KINDS = [(case_judge, 300), (case_judge_many, 12), (case_judge_full, 6), (case_judge_heavy, 2), (case_judge_rooms, 60),
          (case_trace, 200), (case_trace_wrong, 80), (case_replay, 160), (case_replay_wrong, 160), (case_rewrite, 60),
          (case_rewrite_damaged, 160), (case_rewrite_noise, 30), (case_judge_wrapping, 12), (case_trace_wrapping, 12),
@@ -1539,7 +1909,7 @@ def u32(*numbers):
 def exactly(answer, **contents):
     """This answer, and buffers that begin so."""
     def check(got, after):
-        names = next(names for names in BUFFERS.values() if len(names) == len(after))
+        names = next(names for names in BUFFERS.values() if len(names) == len(after) and set(contents) <= set(names))
         if got != answer:
             return "answer %s, the document has %s" % (show(got), show(answer))
         for name, data in contents.items():
@@ -1691,6 +2061,343 @@ def words_refused(rng):
     big = 1 << 32
     yield case("starts of 2^32 + 8 bytes: 7", pack(7), file, three, Buf(bytes(8), big + 8), words)
     yield case("stamps of 2^32 + 24 bytes: 7", pack(7), file, three, bytes(8), Buf(words, big + 24))
+
+
+# Document 02, R-5. From state 1, where it starts, guards touch; state 3 can't be reached, and two guards overlap there.
+PLAYED = Table(4, 1, [(0, 5, 70, 1, 2, 4, 9), (1, 5, 71, 2, 1, 3, 6), (1, 5, 72, 0, 3, 5, 240), (1, 255, 73, 1, 1, 4095, 1),
+                      (2, 0, 74, 2, 4094, 4095, 2), (3, 5, 75, 3, 1, 3, 5), (3, 5, 76, 1, 2, 4, 7)])
+SPLIT_HERE = Table(4, 1, PLAYED.rows + [(1, 5, 77, 1, 2, 4, 9)])        # where it starts
+SPLIT_THERE = Table(4, 1, PLAYED.rows + [(2, 0, 78, 1, 4093, 4095, 2)])  # a step on
+SPLIT_ALIKE = Table(4, 1, PLAYED.rows + [(2, 0, 74, 2, 4093, 4095, 2)])  # in a guard alone
+WAITS = ((3, 9, 700), (5, 65535, 256), (9, 0, MAX_LEFT))                # the second is the next
+
+
+def move(rng, name, call, number=0, pinned=None, table=PLAYED, state=1, inputs=9, timer=600, waits=(), count=None, config=10,
+         waiting=1920, data=None):
+    """A move in a configuration, which need not be one; a configuration and records of so many bytes."""
+    count = len(waits) if count is None else count
+    given = CONFIG.pack(state, inputs, count, timer) + rng.randbytes(90)
+    lent = b"".join(RECORD.pack(*response) for response in waits) + rng.randbytes(4000)
+    return Case(call, [write_file(table) if data is None else data, given[:config], lent[:waiting]], number, "player: " + name,
+                pinned)
+
+
+def held(answer, state, inputs, timer, waits):
+    """This answer, and this configuration then."""
+    return exactly(answer, config=CONFIG.pack(state, inputs, len(waits), timer),
+                   waiting=b"".join(RECORD.pack(*response) for response in waits))
+
+
+def first_given(*causes):
+    """The number of the first cause that is given, or 0."""
+    return next((number for number, given in causes if given), 0)
+
+
+def player_starts(rng):
+    many = Table(32, 31, [(i % 32, i // 32, i % 256, (i + 1) % 32, 1, 2, 3) for i in range(256)])
+    for name, table in (("where guards touch", PLAYED), ("on the whole case", WHOLE), ("without transitions", Table(5, 4, [])),
+                        ("on 256 transitions", many)):
+        yield move(rng, "start " + name, PLAYER_START, 0, held(pack(0), table.initial, 0, 0, ()), table)
+    for config, waiting in itertools.product((0, 1, 9, 10, 11, 12, 64), (0, 8, 1911, 1912, 1919, 1920, 1921, 1928, 4000)):
+        yield move(rng, "start with %d and %d bytes" % (config, waiting), PLAYER_START, 0,
+                   pack(0 if config >= 10 and waiting >= 1920 else 8), config=config, waiting=waiting)
+    yield move(rng, "start over a damaged configuration", PLAYER_START, 0, held(pack(0), 1, 0, 0, ()), state=9, inputs=900,
+               timer=TURN - 1, count=999)
+    yield move(rng, "start while responses wait", PLAYER_START, 0, held(pack(0), 1, 0, 0, ()), waits=WAITS)
+    like, far = (0, 0, 1, 0, 1, 4, 9), [(s, 0, 1, s + 1, 1, 2, 3) for s in range(31)]
+    for name, table, letter in (("where it starts", SPLIT_HERE, 5), ("a step on", SPLIT_THERE, 5),
+                                ("by guards alone", SPLIT_ALIKE, 5),
+                                ("31 steps on", Table(32, 0, far + [(31, 0, 1, 31, 1, 3, 3), (31, 0, 2, 31, 2, 4, 3)]), 0),
+                                ("in outputs alone", Table(1, 0, [like, (0, 0, 2, 0, 1, 4, 9)]), 0),
+                                ("with like outputs", Table(2, 0, [like, (0, 0, 1, 1, 1, 4, 8)]), 0)):
+        yield move(rng, "start: split " + name, PLAYER_START, 0, pack(13), table)
+        yield move(rng, "input: split " + name, PLAYER_INPUT, letter, pack(13), table, table.initial, timer=300)
+    file = write_file(SPLIT_THERE)
+    for cut, config, waiting, split in itertools.product((0, 1), repeat=4):
+        data = file if split else write_file(PLAYED)
+        number = first_given((pack(1, 134), cut), (8, config or waiting), (13, split))
+        yield move(rng, "start, refused first of %s" % [text for text, is_so in (
+            ("cut", cut), ("short configuration", config), ("short records", waiting), ("split", split)) if is_so],
+            PLAYER_START, 0, number, data=data[:134] if cut else data, config=9 if config else 10,
+            waiting=1919 if waiting else 1920)
+
+
+def player_times(rng):
+    for timer, parts in ((0, 0), (0, 1), (600, 0), (600, 65536), (600, 4095 * 256), (0, MAX_TIMER - 1), (0, MAX_TIMER),
+                         (0, MAX_TIMER + 1), (600, MAX_TIMER - 601), (600, MAX_TIMER - 600), (600, MAX_TIMER - 599),
+                         (MAX_TIMER - 1, 0), (MAX_TIMER - 1, 1), (MAX_TIMER - 1, 2), (MAX_TIMER, 0), (MAX_TIMER, 1),
+                         (0, TURN - 1), (600, TURN - 1), (600, TURN - 600), (600, TURN - 601), (MAX_TIMER, TURN - 1)):
+        yield move(rng, "time %d at timer %d" % (parts, timer), PLAYER_TIME, parts,
+                   held(pack(0), 1, 9, min(MAX_TIMER, timer + parts), ()), timer=timer)
+    for three in ((700, 256, MAX_LEFT), (1, 2, 3), (0, 5, 9), (0, 0, 7), (256, 256, 256)):
+        for lefts in sorted(set(itertools.permutations(three))):
+            waits = [(step, letter, left) for (step, letter, _), left in zip(WAITS, lefts)]
+            least = min(lefts)
+            for parts in sorted({0, 1, max(0, least - 1), least, least + 1, max(lefts), TURN - 1}):
+                after = [(step, letter, left - parts) for step, letter, left in waits]
+                yield move(rng, "time %d with %d, %d and %d left" % (parts, *lefts), PLAYER_TIME, parts,
+                           held(pack(0), 1, 9, 600 + parts, after) if parts <= least else held(pack(11), 1, 9, 600, waits),
+                           waits=waits)
+    crowd = [(2 * j + 2, j, 1000 + 7 * j % 900) for j in range(240)]
+    for parts, number in ((1000, 0), (1001, 11)):
+        yield move(rng, "time %d while 240 wait" % parts, PLAYER_TIME, parts, pack(number), inputs=512, waits=crowd)
+    yield move(rng, "time stops the timer while one waits", PLAYER_TIME, 60000,
+               held(pack(0), 1, 9, MAX_TIMER, [(9, 4, 1440)]), timer=MAX_TIMER - 5, waits=[(9, 4, MAX_LEFT)])
+    for name, table in (("a split table", SPLIT_HERE), ("a table without transitions", Table(2, 0, []))):
+        yield move(rng, "time on " + name, PLAYER_TIME, 256, pack(0), table, waits=WAITS)
+
+
+def player_inputs(rng):
+    for timer, letter, state, taken in (
+            (0, 5, 1, None), (1, 5, 1, None), (255, 5, 1, None), (256, 5, 1, None), (257, 5, 1, 1), (511, 5, 1, 1), (512, 5, 1, 1),
+            (767, 5, 1, 1), (768, 5, 1, 1), (769, 5, 1, 2), (1024, 5, 1, 2), (1280, 5, 1, 2), (1281, 5, 1, None),
+            (1535, 5, 1, None), (600, 255, 1, 3), (257, 255, 1, 3), (4095 * 256, 255, 1, 3), (4095 * 256 + 1, 255, 1, None),
+            (MAX_TIMER - 1, 255, 1, None), (MAX_TIMER, 255, 1, None), (MAX_TIMER, 0, 2, None), (4095 * 256, 0, 2, 4),
+            (4094 * 256, 0, 2, None), (4094 * 256 + 1, 0, 2, 4), (600, 5, 0, 0), (512, 5, 0, None), (513, 5, 0, 0),
+            (600, 0, 1, None), (600, 70, 1, None), (600, 256 + 5, 1, None), (600, 511, 1, None), (600, 256, 2, None),
+            (600, 65535, 1, None), (4095 * 256, 256, 2, None), (512, 5, 3, 5), (513, 5, 3, 5), (600, 5, 3, 5), (768, 5, 3, 5),
+            (769, 5, 3, 6), (1024, 5, 3, 6), (256, 5, 3, None), (600, 255, 0, None), (600, 0, 2, None)):
+        for waits in ((), WAITS):
+            row = None if taken is None else PLAYED.rows[taken]
+            yield move(rng, "input %d in state %d at timer %d, %d waiting" % (letter, state, timer, len(waits)), PLAYER_INPUT,
+                       letter, pack(10) if row is None else
+                       held(pack(0, taken), row[TO], 10, 0, waits + ((10, row[OUTPUT], 256 * row[D]),)),
+                       state=state, timer=timer, waits=waits)
+    back = backwards(PLAYED)
+    yield move(rng, "input where two are open, numbered backwards", PLAYER_INPUT, 5,
+               held(pack(0, 0), 1, 10, 0, [(10, 76, 7 * 256)]), back, 3)
+    for inputs, number in ((0, 0), (1, 0), (510, 0), (511, 0), (512, 14)):
+        yield move(rng, "input after %d" % inputs, PLAYER_INPUT, 5,
+                   held(pack(0, 1), 2, inputs + 1, 0, [(inputs + 1, 71, 1536)]) if number == 0 else pack(number), inputs=inputs)
+    for count, lent, number in ((238, 1920, 0), (239, 1920, 0), (240, 1920, 15), (240, 1928, 15), (240, 4000, 15)):
+        crowd = [(j + 2, j, 5 + j) for j in range(count)]
+        yield move(rng, "input while %d wait, %d bytes of records" % (count, lent), PLAYER_INPUT, 5,
+                   held(pack(0, 1), 2, 401, 0, crowd + [(401, 71, 1536)]) if number == 0 else pack(number), inputs=400,
+                   waits=crowd, waiting=lent)
+    for at in range(3):
+        waits = [(step, letter, 0 if i == at else left) for i, (step, letter, left) in enumerate(WAITS)]
+        yield move(rng, "input while response %d of 3 is due" % (at + 1), PLAYER_INPUT, 5, pack(11), waits=waits)
+        waits = [(step, letter, 1 if i == at else left) for i, (step, letter, left) in enumerate(WAITS)]
+        yield move(rng, "input 1/256 tick before response %d of 3 is due" % (at + 1), PLAYER_INPUT, 5, pack(0, 1), waits=waits)
+    yield move(rng, "input on a table without transitions", PLAYER_INPUT, 0, pack(10), Table(2, 0, []))
+
+
+def player_outputs(rng):
+    for lefts in itertools.product((0, 1, 600), repeat=3):
+        waits = [(step, letter, left) for (step, letter, _), left in zip(WAITS, lefts)]
+        at = lefts.index(0) if 0 in lefts else None
+        yield move(rng, "output with %d, %d and %d left" % lefts, PLAYER_OUTPUT, 0, pack(11) if at is None else
+                   held(pack(0, *waits[at][:2]), 1, 9, 600, waits[:at] + waits[at + 1:]), waits=waits)
+    yield move(rng, "output with none waiting", PLAYER_OUTPUT, 0, pack(11))
+    yield move(rng, "output with none waiting, and a record without time left", PLAYER_OUTPUT, 0, pack(11), waits=[(1, 2, 0)],
+               count=0)
+    for letter in (0, 1, 255, 256, 32768, 65535):
+        yield move(rng, "output of letter %d" % letter, PLAYER_OUTPUT, 0, held(pack(0, 9, letter), 1, 9, 600, ()),
+                   waits=[(9, letter, 0)])
+    for at in (0, 1, 120, 238, 239):
+        crowd = [(2 * j + 2, j, 0 if j >= at else 3) for j in range(240)]
+        yield move(rng, "output of record %d of 240" % at, PLAYER_OUTPUT, 0,
+                   held(pack(0, 2 * at + 2, at), 1, 512, 600, crowd[:at] + crowd[at + 1:]), inputs=512, waits=crowd)
+    for name, table in (("a split table", SPLIT_HERE), ("a table without transitions", Table(2, 0, []))):
+        yield move(rng, "output on " + name, PLAYER_OUTPUT, 0, pack(0, 3, 9), table, waits=[(3, 9, 0)])
+
+
+MOVES = ((PLAYER_TIME, 0), (PLAYER_INPUT, 5), (PLAYER_OUTPUT, 0))
+
+
+def waiting_for(call, waits):
+    """The same with the first response due if the move is an output."""
+    return [waits[0][:2] + (0,)] + list(waits[1:]) if call == PLAYER_OUTPUT and waits else list(waits)
+
+
+def player_damage(rng):
+    """Both sides of every limit, in each of the three moves."""
+    named = {PLAYER_TIME: pack(0), PLAYER_INPUT: pack(0, 1), PLAYER_OUTPUT: pack(0, 3, 9)}
+    for (call, number), text in zip(MOVES, ("time", "input", "output")):
+        def case(name, good, waits=WAITS, **changed):
+            waits = waiting_for(call, waits)
+            return move(rng, "%s: %s" % (text, name), call, number, good, waits=waits, **changed)
+        for state in (4, 5, 31, 32, 257, 65535):
+            yield case("state %d" % state, pack(15), state=state)
+        yield case("the last state", {PLAYER_INPUT: pack(0, 5)}.get(call, named[call]), state=3)
+        for timer in (MAX_TIMER - 1, MAX_TIMER, MAX_TIMER + 1, MAX_TIMER + 256, TURN - 1):
+            good = pack(10) if call == PLAYER_INPUT else named[call]
+            yield case("timer %d" % timer, good if timer <= MAX_TIMER else pack(15), timer=timer)
+        for inputs in (9, 511, 512, 513, 514, 65535):
+            good = pack(14) if call == PLAYER_INPUT and inputs == 512 else named[call]
+            yield case("%d inputs" % inputs, good if inputs <= 512 else pack(15), inputs=inputs)
+        crowd = [(j + 3, 9, 6 + j) for j in range(241)]
+        for count, lent in ((239, 1920), (240, 1920), (240, 1928), (241, 1928), (241, 4000), (241, 1920), (240, 1919), (240, 1912),
+                            (239, 1919), (239, 1912), (239, 1911), (1, 8), (1, 7), (1, 0), (2, 16), (2, 15), (65535, 4000),
+                            (256, 4000)):
+            good = pack(15) if count > min(240, lent // 8) else pack(8) if lent < 1920 else \
+                pack(15) if call == PLAYER_INPUT and count == 240 else named[call]
+            yield case("%d waiting in %d bytes" % (count, lent), good, crowd, inputs=400, count=count, waiting=lent)
+        for steps in ((3, 5, 9), (1, 2, 3), (7, 8, 9), (0, 5, 9), (3, 0, 9), (3, 3, 9), (3, 9, 9), (5, 3, 9), (3, 9, 5), (9, 5, 3),
+                      (3, 5, 10), (3, 10, 11), (10, 11, 12), (3, 5, 65535), (3, 5, 265), (0, 0, 0), (1, 1, 2), (2, 1, 3)):
+            good = steps[0] >= 1 and steps[0] < steps[1] < steps[2] <= 9
+            yield case("steps %d, %d and %d" % steps,
+                       (pack(0, steps[0], 9) if call == PLAYER_OUTPUT else named[call]) if good else pack(15),
+                       [(step, 9, 300) for step in steps])
+        yield case("one step 0", pack(15), [(0, 9, 300)])
+        yield case("one step above the inputs", pack(15), [(10, 9, 300)])
+        yield case("the step of the last input", pack(0, 9, 9) if call == PLAYER_OUTPUT else named[call], [(9, 9, 300)])
+        for at in range(3):
+            for left in (MAX_LEFT - 1, MAX_LEFT, MAX_LEFT + 1, MAX_LEFT + 65536, TURN - 1):
+                waits = [(step, 9, left if i == at else 300) for i, (step, _, _) in enumerate(WAITS)]
+                bad = left > MAX_LEFT
+                if call == PLAYER_OUTPUT and at == 0:
+                    continue
+                yield case("record %d has %d left" % (at, left), pack(15) if bad else named[call], waits)
+        for letter in (255, 256, 65535):
+            yield case("a record with letter %d" % letter, named[call], ((3, 9, 300), (5, letter, 300)))
+        yield case("none waiting, records of noise", pack(11) if call == PLAYER_OUTPUT else named[call], ())
+        for config in (0, 1, 2, 6, 8, 9, 10, 11, 12, 16, 100):
+            for waiting in (1920, 1912, 0):
+                good = pack(15) if config < 10 or waiting == 0 else pack(8) if waiting < 1920 else named[call]
+                yield case("a configuration of %d bytes, %d of records" % (config, waiting), good, config=config, waiting=waiting)
+        for waiting in (1919, 1920, 1921, 1927, 1928, 4000, 24, 31, 23):
+            yield case("%d bytes of records" % waiting,
+                       pack(15) if waiting < 24 else pack(8) if waiting < 1920 else named[call], waiting=waiting)
+
+
+def player_refused(rng):
+    """What is refused first, of all causes together."""
+    texts = ("cut", "damaged", "short", "closed", "due", "split", "513th", "241st")
+    for given in itertools.product((0, 1), repeat=8):
+        cut, damaged, short, closed, due, split, last, full = given
+        inputs, count = 512 if last else 300, 240 if full else 2
+        waits = [(j + 1, 9, 0 if due and j == 1 else 50) for j in range(count)]
+        if damaged:
+            waits[-1] = (count, 9, MAX_LEFT + 1)
+            waits[0] = (1, 9, 0 if due else 50)
+        number = first_given((pack(1, 134), cut), (15, damaged or short and full), (8, short), (10, closed), (11, due), (13, split),
+                             (14, last), (15, full))
+        data = write_file(SPLIT_THERE if split else PLAYED)
+        yield move(rng, "input, refused first of %s" % [text for text, is_so in zip(texts, given) if is_so], PLAYER_INPUT,
+                   6 if closed else 5, number or pack(0, 1), inputs=inputs, waits=waits, waiting=1919 if short else 1920,
+                   data=data[:134] if cut else data)
+    texts = ("cut", "damaged", "short", "not now", "split")
+    for (call, text), given in itertools.product(((PLAYER_TIME, "time"), (PLAYER_OUTPUT, "output")),
+                                                 itertools.product((0, 1), repeat=5)):
+        cut, damaged, short, not_now, split = given
+        data = write_file(SPLIT_HERE if split else PLAYED)
+        good = pack(0, 2, 8) if call == PLAYER_OUTPUT else pack(0)
+        number = first_given((pack(1, 134), cut), (15, damaged), (8, short), (11, not_now))
+        left = 1 if call == PLAYER_OUTPUT and not_now else 0 if call == PLAYER_OUTPUT else 300
+        yield move(rng, "%s, refused first of %s" % (text, [name for name, is_so in zip(texts, given) if is_so]), call,
+                   0 if call == PLAYER_OUTPUT else 300 + not_now, number or good, state=4 if damaged else 1,
+                   waits=((1, 9, 400), (2, 8, left)), waiting=1919 if short else 1920, data=data[:134] if cut else data)
+
+
+def player_files(rng):
+    """Files that are refused, and lengths that don't fit 32 bits."""
+    file, big = write_file(PLAYED), 1 << 32
+    full = Table(1, 0, [(0, i % 256, i // 256, 0, 1, 2, 3) for i in range(257)])
+    for call, number in ((PLAYER_START, 0),) + MOVES:
+        for name, data, refused in (("no file", b"", pack(1)), ("a cut file", file[:60], pack(1, 44)),
+                                    ("a byte after the end", file + b"\0", pack(2, len(file))),
+                                    ("257 transitions", write_file(full), pack(3, 8 + 18 * 256)),
+                                    ("a number out of range", file[:8] + record(2, (0, 0, 0, 0, 4, 4, 5)) + file[26:], pack(4, 8)),
+                                    ("a repeated transition", file[:26] + file[8:26] + file[26:], pack(5, 26))):
+            for config, waiting in ((0, 0), (10, 1920)):
+                yield move(rng, "%s with %s, %d and %d bytes" % (CALLS[call], name, config, waiting), call, number, refused,
+                           data=data, config=config, waiting=waiting)
+        waits = waiting_for(call, WAITS)
+        good = {PLAYER_INPUT: pack(0, 1), PLAYER_OUTPUT: pack(0, 3, 9)}.get(call, pack(0))
+        for name, place, length in (("records of 2^32 bytes", 2, big), ("records of 2^32 + 1912 bytes", 2, big + 1912),
+                                    ("a configuration of 2^32 + 5 bytes", 1, big + 5)):
+            case = move(rng, "%s with %s" % (CALLS[call], name), call, number, good, waits=waits)
+            case.bufs[place] = Buf(case.bufs[place].data, length)
+            yield case
+        case = move(rng, "%s with a file of 2^32 + %d bytes" % (CALLS[call], len(file)), call, number, pack(2, len(file)),
+                    waits=waits)
+        case.bufs[0] = Buf(file, big + len(file))
+        yield case
+
+
+class Column:
+    """Plays a word of letters and gaps; issues what falls due, in the end all. A refused move ends it."""
+
+    def __init__(self, word):
+        self.word = word
+
+    def __call__(self, now, answer):
+        if answer is None:
+            return PLAYER_START, 0
+        _, inputs, timer, waits = now
+        next_due = least_left(waits)
+        if unpack(answer)[0] != 0:
+            return None
+        if next_due == 0:
+            return PLAYER_OUTPUT, 0
+        if inputs < len(self.word):
+            letter, gap = self.word[inputs]
+            return (PLAYER_INPUT, letter) if timer == gap else (PLAYER_TIME, min(gap - timer, next_due))
+        return (PLAYER_TIME, next_due) if waits else None
+
+
+def column(rng, name, table, trace, gaps, pinned):
+    """A run that plays gaps on a trace from the initial state."""
+    return Run([write_file(table), rng.randbytes(16), rng.randbytes(1930)],
+               Column([(table.rows[i][INPUT], gap) for i, gap in zip(trace, gaps)]), "player: " + name, pinned)
+
+
+def issues(*wanted):
+    """Exactly these outputs: time, step, letter."""
+    return lambda past: None if past.issued == list(wanted) else "issued %s, the document has %s" % (past.issued, list(wanted))
+
+
+def before(a, b):
+    """Both steps are issued, a before b."""
+    def check(past):
+        steps = [step for _, step, _ in past.issued]
+        return None if steps.index(a) < steps.index(b) else "step %d was not issued before step %d" % (a, b)
+    return check
+
+
+def player_runs(rng):
+    three = (0, 1, 2)
+    for text, gaps, wanted in (("first", (2560, 4352, 3584), issues((12800, 1, 1), (13056, 3, 3), (14592, 2, 2))),
+                               ("second", (3840, 4352, 2816), issues((13568, 3, 3), (14080, 1, 1), (15872, 2, 2))),
+                               ("third", (5888, 4352, 3840), lambda past: None if not past.rows and not past.issued else "played")):
+        yield column(rng, "the %s word of the whole case" % text, WHOLE, three, gaps, wanted)
+    loop = (0,) + 119 * (1,) + (2,)
+    for name, table, trace, k, m in (("the whole case", WHOLE, three, 1, 3), ("the dead end", DEAD_END, (0, 1), 1, 2),
+                                     ("the loop of 121 steps", LONG_LOOP, loop, 1, 121)):
+        rows = [table.rows[i] for i in trace]
+        yield column(rng, "the late word of %s" % name, table, trace, late_word(rows), before(k, m))
+        yield column(rng, "the early word of %s" % name, table, trace, early_word(rows, k, m), before(m, k))
+    tie = Table(3, 0, [(0, 0, 1, 1, 1, 2, 10), (1, 0, 2, 2, 3, 5, 6)])
+    for gap, order in ((1024, (1, 2)), (1023, (2, 1)), (1025, (1, 2))):
+        yield column(rng, "due times %d parts apart" % (gap - 1024), tie, (0, 1), (512, gap),
+                     issues(*sorted(((3072, 1, 1), (2048 + gap, 2, 2)))) if gap != 1024 else issues((3072, 1, 1), (3072, 2, 2)))
+    crowd = Table(1, 0, [(0, 0, 1, 0, 1, 2, 240)])
+
+    def full(past):
+        return None if past.most == 240 and len(past.issued) == 300 else "%d waited at most" % past.most
+    yield column(rng, "300 inputs, of which 240 wait", crowd, 300 * (0,), 300 * (257,), full)
+    most = 512 * ((PLAYER_TIME, 257), (PLAYER_INPUT, 0), (PLAYER_TIME, 256), (PLAYER_OUTPUT, 0))
+
+    def last(past):
+        return None if len(past.issued) == 512 else "%d outputs" % len(past.issued)
+    yield Run([write_file(Table(1, 0, [(0, 0, 1, 0, 1, 3, 1)])), rng.randbytes(10), rng.randbytes(1920)],
+              in_turn([(PLAYER_START, 0), *most, (PLAYER_TIME, 257), (PLAYER_INPUT, 0), (PLAYER_OUTPUT, 0), (PLAYER_TIME, 9)]),
+              "player: 512 inputs and one more", last)
+    for name, moves in (
+            ("pauses that stop the timer", ((PLAYER_TIME, TURN - 1), (PLAYER_INPUT, 0), (PLAYER_TIME, TURN - 1), (PLAYER_INPUT, 0),
+                                            (PLAYER_START, 0), (PLAYER_TIME, 400), (PLAYER_INPUT, 0), (PLAYER_TIME, 257),
+                                            (PLAYER_TIME, 256), (PLAYER_INPUT, 0), (PLAYER_TIME, 0), (PLAYER_OUTPUT, 0),
+                                            (PLAYER_OUTPUT, 0), (PLAYER_TIME, TURN - 256), (PLAYER_INPUT, 0))),
+            ("a new start while one waits", ((PLAYER_TIME, 300), (PLAYER_INPUT, 0), (PLAYER_TIME, 100), (PLAYER_START, 0),
+                                             (PLAYER_OUTPUT, 0), (PLAYER_TIME, 300), (PLAYER_INPUT, 0), (PLAYER_TIME, 256),
+                                             (PLAYER_OUTPUT, 0)))):
+        yield Run([write_file(ONE), rng.randbytes(10), rng.randbytes(1920)], in_turn(((PLAYER_START, 0),) + moves),
+                  "player: " + name)
+    for name, table in (("without transitions", Table(2, 1, [])), ("that is split", SPLIT_HERE)):
+        yield Run([write_file(table), CONFIG.pack(1, 0, 0, 0), rng.randbytes(1920)],
+                  in_turn(((PLAYER_START, 0), (PLAYER_TIME, 600), (PLAYER_INPUT, 5), (PLAYER_OUTPUT, 0), (PLAYER_TIME, 5))),
+                  "player: moves on a table " + name)
 
 
 # Document 02, R-3. Letters are written 1 and 2, or a and b: the same places of a table with them in all ways.
@@ -2342,7 +3049,8 @@ def fixed_cases():
     add("order: a file of 2^32 + 66 bytes", ORDER, Buf(file, big + 66), rng.randbytes(540), rng.randbytes(1080),
         pinned=pack(2, 66))
     for more in (words_answered, words_counted, words_lent, words_refused, letters_throughout, letters_of_traces,
-                 letters_of_tables, letters_and_limits, letters_elsewhere, letters_of_full_tables):
+                 letters_of_tables, letters_and_limits, letters_elsewhere, letters_of_full_tables, player_starts, player_times,
+                 player_inputs, player_outputs, player_damage, player_refused, player_files, player_runs):
         cases += more(rng)
     # what the documents have and what has a name first
     return sorted(cases, key=lambda c: c.name.startswith(("whole case cut", "whole case with bit")))
@@ -2351,6 +3059,7 @@ def fixed_cases():
 # ---------------------------------------------------------------------------------------------------------------------
 
 def describe(case):
+    case = case.last if isinstance(case, Run) else case
     lines = ["  call %s, start %d" % (CALLS[case.call], case.start)]
     for name, b in zip(BUFFERS[case.call], case.bufs):
         text = b.data.hex()
@@ -2370,8 +3079,11 @@ def main():
     parser = argparse.ArgumentParser(description="Tries the calls against what documents 01 and 02 say.")
     parser.add_argument("driver", help="the C driver, linked with what is to be tried")
     parser.add_argument("--cases", type=int, default=12000, help="number of random cases (default 12000)")
+    parser.add_argument("--runs", type=int, default=2000, help="number of random runs of the player (default 2000)")
     parser.add_argument("--seed", type=int, default=1, help="seed of the random cases (default 1)")
-    parser.add_argument("--only", help="try one case: the number of a random one, or the name of a fixed one")
+    parser.add_argument("--only", help="try one case: the number of a random one, 'run' and the number of a random run, or the "
+                        "name of a fixed one")
+    parser.add_argument("--named", default="", help="of the fixed cases those alone whose names begin so")
     parser.add_argument("--first", action="store_true", help="stop at the first failure")
     parser.add_argument("--no-fixed", action="store_true", help="leave out the fixed cases")
     parser.add_argument("--no-random", action="store_true", help="leave out the random cases")
@@ -2379,11 +3091,12 @@ def main():
     parser.add_argument("--run", default="", help="command that runs the driver, such as an emulator")
     args = parser.parse_args()
 
-    fixed = [] if args.no_fixed else fixed_cases()
-    numbers = [] if args.no_random else range(args.cases)
+    fixed = [] if args.no_fixed else [c for c in fixed_cases() if c.name.startswith(args.named)]
+    numbers, runs = ([], []) if args.no_random else (range(args.cases), range(args.runs))
     if args.only is not None:
         fixed = [c for c in fixed_cases() if c.name == args.only]
         numbers = [int(args.only)] if args.only.isdigit() else []
+        runs = [int(args.only[4:])] if args.only.startswith("run ") and args.only[4:].isdigit() else []
 
     if not args.quiet:
         print("seed %d" % args.seed, flush=True)
@@ -2391,25 +3104,29 @@ def main():
     began = told = time.monotonic()
     passed = failed = skipped = 0
     tally = {}
-    total = len(fixed) + len(numbers)
+    total = len(fixed) + len(numbers) + len(runs)
 
     def all_cases():
         for case in fixed:
             yield case, random.Random("sandgusset %s" % case.name)
         for index in numbers:
             yield random_case(args.seed, index)
+        for index in runs:
+            yield random_run(args.seed, index)
 
     def again(case):
-        number = case.name.split()[1] if case.name.startswith("random ") else shlex.quote(case.name)
+        words = case.name.split()
+        number = {"random": words[1], "run": "'run %s'" % words[1]}.get(words[0], shlex.quote(case.name))
         return "  again with: --seed %d --only %s" % (args.seed, number)
 
     for case, rng in all_cases():
         try:
-            wrong = try_case(driver, case, rng)
+            wrong = (try_run if isinstance(case, Run) else try_case)(driver, case, rng)
         except Disagreement as fault:
             sys.exit("a fault of this program: %s differ\n%s\n%s" % (fault, case.name, again(case)))
-        tally.setdefault(case.call, {}).setdefault(case.kind, 0)
-        tally[case.call][case.kind] += 1
+        for call, kind in case.kinds:
+            tally.setdefault(call, {}).setdefault(kind, 0)
+            tally[call][kind] += 1
         if wrong is None:
             passed += 1
         elif wrong == "skipped":
@@ -2432,8 +3149,8 @@ def main():
     if not args.quiet:
         for call in sorted(tally):
             print("%s: %s" % (CALLS[call], ", ".join("%s %d" % item for item in sorted(tally[call].items()))))
-        print("fixed cases: %d; random cases: %d, seed %d; %.1f s" %
-              (len(fixed), len(numbers), args.seed, time.monotonic() - began))
+        print("fixed cases: %d; random cases: %d, random runs: %d, seed %d; %.1f s" %
+              (len(fixed), len(numbers), len(runs), args.seed, time.monotonic() - began))
     print("%d passed, %d failed" % (passed, failed))
     sys.exit(1 if failed or not passed else 0)
 

@@ -317,7 +317,7 @@ ln -s "$root/tools" "$root/examples" desk/
 printf '#!/bin/sh\nexec %s "$@"\n' "$(command -v "$cc")" >bin/cc
 chmod +x bin/cc
 sed -n '/^## Link the library/,/^## What/s/^    //p' "$root/README.md" | sed "s|^\./|$shared_runner ./|; s|^python3|${python:-python3}|" >commands
-cat "$root"/tests/host/source-trace{,.words}.out >wanted
+cat "$root"/tests/host/source-trace{,.words,.bench}.out >wanted
 if [ -n "$python" ]; then
     printf '%s\n' "${python_lines[@]}" >>wanted
 else

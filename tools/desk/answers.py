@@ -29,6 +29,11 @@ REFUSALS = {
     7: "the number of stamps differs from the number of steps, or there are more than 256 words",
     8: "the lent room is too short",
     9: "a gap outside its guard",
+    10: "no transition is open to this input",
+    11: "not now: a response is due first, or none is due",
+    13: "the table is split",
+    14: "more than 512 inputs",
+    15: "the configuration is damaged, or 241 responses would wait",
 }
 
 # The rule behind a refusal of a table file, for --explain.

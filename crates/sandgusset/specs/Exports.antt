@@ -9,6 +9,8 @@ use Rattle.night_bytes.specs.NightBytes.{WordsBytesOutcome}
 use Rattle.trace_bytes.specs.Traces.{JudgeTraceBytesOutcome}
 use Rattle.verdict_bytes.specs.Tables.{JudgeTableBytesOutcome}
 use Rattle.order_bytes.specs.Orders.{OrderBytesOutcome}
+use Rattle.player.specs.declared.Move.{Move}
+use Rattle.player_bytes.specs.Plays.{StartBytesOutcome, PlayBytesOutcome}
 use Rattle.sandgusset.specs.Packed.{packed}
 
 pub record JudgeAnswer (file trace₀ stamps₀ : List ℕ) (r : ℕ) (trace stamps : List ℕ) : Type 0 where
@@ -39,4 +41,15 @@ pub record WordsAnswer (file trace starts stamps order₀ due₀ marks₀ : List
 pub record RewriteAnswer (file out₀ : List ℕ) (r : ℕ) (out : List ℕ) : Type 0 where
   pub said : Fields
   pub outcome : RewriteBytesOutcome file out₀ said out
+  pub packs : r ≡ packed said
+
+pub record PlayerStartAnswer (file config₀ waiting₀ : List ℕ) (r : ℕ) (config waiting : List ℕ) : Type 0 where
+  pub said : Fields
+  pub outcome : StartBytesOutcome file config₀ waiting₀ said config waiting
+  pub packs : r ≡ packed said
+
+-- the three moves
+pub record PlayerAnswer (file config₀ waiting₀ : List ℕ) (mv : Move) (r : ℕ) (config waiting : List ℕ) : Type 0 where
+  pub said : Fields
+  pub outcome : PlayBytesOutcome file config₀ waiting₀ mv said config waiting
   pub packs : r ≡ packed said

@@ -1,5 +1,6 @@
 // An answer as one number.
 use night::Words;
+use player::Answer;
 use replay::Replayed;
 use table::Refusal;
 use table_file::Written;
@@ -15,6 +16,7 @@ ghost use Rattle.night.specs.Night.{wordsFields};
 ghost use Rattle.verdict.specs.OnTrace.{traceFields};
 ghost use Rattle.table_verdict.specs.OnTable.{tableFields};
 ghost use Rattle.table_order.specs.OnOrder.{orderFields};
+ghost use Rattle.player.specs.Answer.{answerFields};
 ghost use Rattle.sandgusset.specs.Packed.{packed};
 
 // Four fields of 16 bits, the lowest first.
@@ -89,5 +91,19 @@ pub(crate) fn written(a: Written) -> u64
     match a {
         Written::Bytes(n) => pack(0, n, 0, 0),
         Written::Refused(r) => refused(r),
+    }
+}
+
+pub(crate) fn played(a: Answer) -> u64
+    ensures { λ r. ⌜ r ≡ packed (answerFields a) ⌝ }
+{
+    match a {
+        Answer::Done(first, second) => pack(0, first as usize, second as usize, 0),
+        Answer::Refused(r) => refused(r),
+        Answer::Closed => pack(10, 0, 0, 0),
+        Answer::Untimely => pack(11, 0, 0, 0),
+        Answer::Split => pack(13, 0, 0, 0),
+        Answer::Spent => pack(14, 0, 0, 0),
+        Answer::Damaged => pack(15, 0, 0, 0),
     }
 }

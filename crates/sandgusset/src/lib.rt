@@ -1,5 +1,8 @@
 // What a C host links (include/sandgusset.h): the byte calls, each answer packed into one number.
+use player::Move;
 ghost use Rattle.sandgusset.specs.Exports.{JudgeAnswer, OrderAnswer, JudgeTraceAnswer, ReplayAnswer, WordsAnswer, RewriteAnswer};
+ghost use Rattle.sandgusset.specs.Exports.{PlayerStartAnswer, PlayerAnswer};
+ghost use Rattle.player.specs.declared.Move.the-variants.{Time, Input, Output};
 
 mod answers;
 
@@ -72,4 +75,54 @@ pub extern "C" fn sandgusset_rewrite(file: &[u8], out: &mut [u8]) -> u64
 {
     let a = on_bytes::rewrite_bytes(file, out);
     answers::written(a)
+}
+
+// Starts the player on a table file.
+#[no_mangle]
+pub extern "C" fn sandgusset_player_start(file: &[u8], config: &mut [u8], waiting: &mut [u8]) -> u64
+    ensures { λ r. ⌜ PlayerStartAnswer (now (file .entry)) (now (config .entry)) (now (waiting .entry)) r (now (config .exit)) (now (waiting .exit)) ⌝ }
+{
+    let a = player_bytes::start_bytes(file, config, waiting);
+    answers::played(a)
+}
+
+// Lets time pass.
+#[no_mangle]
+pub extern "C" fn sandgusset_player_time(
+    file: &[u8],
+    config: &mut [u8],
+    waiting: &mut [u8],
+    parts: u32,
+) -> u64
+    ensures { λ r. ⌜ PlayerAnswer (now (file .entry)) (now (config .entry)) (now (waiting .entry)) (Time parts) r (now (config .exit)) (now (waiting .exit)) ⌝ }
+{
+    let a = player_bytes::play_bytes(file, config, waiting, Move::Time(parts));
+    answers::played(a)
+}
+
+// An input now.
+#[no_mangle]
+pub extern "C" fn sandgusset_player_input(
+    file: &[u8],
+    config: &mut [u8],
+    waiting: &mut [u8],
+    letter: u16,
+) -> u64
+    ensures { λ r. ⌜ PlayerAnswer (now (file .entry)) (now (config .entry)) (now (waiting .entry)) (Input letter) r (now (config .exit)) (now (waiting .exit)) ⌝ }
+{
+    let a = player_bytes::play_bytes(file, config, waiting, Move::Input(letter));
+    answers::played(a)
+}
+
+// Issues the response that is due now.
+#[no_mangle]
+pub extern "C" fn sandgusset_player_output(
+    file: &[u8],
+    config: &mut [u8],
+    waiting: &mut [u8],
+) -> u64
+    ensures { λ r. ⌜ PlayerAnswer (now (file .entry)) (now (config .entry)) (now (waiting .entry)) Output r (now (config .exit)) (now (waiting .exit)) ⌝ }
+{
+    let a = player_bytes::play_bytes(file, config, waiting, Move::Output);
+    answers::played(a)
 }
