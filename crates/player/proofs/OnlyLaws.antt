@@ -99,7 +99,7 @@ module _ (m : Machine) (c : Config) (l : List Pending) where
             ∙ ap (λ (k : List Pending). (b .before ++ k) ++ drop (c .waiting - 1) l) (s .after) ∙ sym (y .list),
       )
 
-  done-only : (mv : Move) (f g : Fields) (c' c″ : Config) (l' l″ : List Pending) → MoveDone m c l mv f c' l' → MoveDone m c l mv g c″ l″
+  pub done-only : (mv : Move) (f g : Fields) (c' c″ : Config) (l' l″ : List Pending) → MoveDone m c l mv f c' l' → MoveDone m c l mv g c″ l″
       → (f ≡ g) × (c' ≡ c″) × (l' ≡ l″)
   done-only (Time t) f g c' c″ l' l″ x y = (x .says ∙ sym (y .says), x .config ∙ sym (y .config), x .list ∙ sym (y .list))
   done-only (Input letter) f g c' c″ l' l″ x y = input-only letter f g c' c″ l' l″ x y

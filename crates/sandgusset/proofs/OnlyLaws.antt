@@ -19,10 +19,12 @@ use Rattle.places.proofs.ShownLaws.{bytes-is, bytes-agree, bytes-only, bytes-pl
 use Rattle.on_bytes.proofs.OnlyLaws.{replay-fields-only, rewrite-fields-only}
 use Rattle.night_bytes.proofs.OnlyLaws.{words-fields-only}
 use Rattle.trace_bytes.proofs.TraceOnly.{fields-only as trace-only}
+use Rattle.player.specs.declared.Move.{Move}
+use Rattle.player_bytes.proofs.OnlyLaws.{start-fields-only, play-fields-only}
 use Rattle.verdict_bytes.proofs.TableOnly.{table-known}
 use Rattle.order_bytes.proofs.OrderOnly.{order-known}
 use Rattle.sandgusset.specs.Packed.{packed, unpacked}
-use Rattle.sandgusset.specs.Exports.{JudgeAnswer, OrderAnswer, JudgeTraceAnswer, ReplayAnswer, WordsAnswer, RewriteAnswer}
+use Rattle.sandgusset.specs.Exports.{JudgeAnswer, OrderAnswer, JudgeTraceAnswer, ReplayAnswer, WordsAnswer, RewriteAnswer, PlayerStartAnswer, PlayerAnswer}
 use Rattle.sandgusset.proofs.FitLaws.{judge-apart, order-apart}
 
 -- one answer is one number
@@ -53,6 +55,19 @@ pub judge-trace-only : {file trace stamps₀ stamps stamps' : List ℕ} {r s : �
 judge-trace-only {file} {trace} {stamps₀} {stamps} {stamps'} x y =
     let e = trace-only trace stamps₀ file (x .said) (y .said) stamps stamps' (x .outcome) (y .outcome) in
     (same (x .packs) (y .packs) (e .0), e .1)
+
+pub player-start-only : {file config₀ waiting₀ config waiting config' waiting' : List ℕ} {r s : ℕ} → PlayerStartAnswer file config₀ waiting₀ r config waiting
+    → PlayerStartAnswer file config₀ waiting₀ s config' waiting' → (r ≡ s) × (config ≡ config') × (waiting ≡ waiting')
+player-start-only {file} {config₀} {waiting₀} {config} {waiting} {config'} {waiting'} x y =
+    let e = start-fields-only file config₀ waiting₀ (x .said) (y .said) config waiting config' waiting' (x .outcome) (y .outcome) in
+    (same (x .packs) (y .packs) (e .0), e .1, e .2)
+
+pub player-only : {file config₀ waiting₀ : List ℕ} {mv : Move} {config waiting config' waiting' : List ℕ} {r s : ℕ}
+    → PlayerAnswer file config₀ waiting₀ mv r config waiting → PlayerAnswer file config₀ waiting₀ mv s config' waiting'
+    → (r ≡ s) × (config ≡ config') × (waiting ≡ waiting')
+player-only {file} {config₀} {waiting₀} {mv} {config} {waiting} {config'} {waiting'} x y =
+    let e = play-fields-only file config₀ waiting₀ mv (x .said) (y .said) config waiting config' waiting' (x .outcome) (y .outcome) in
+    (same (x .packs) (y .packs) (e .0), e .1, e .2)
 
 -- a call that may show a trace, as a host takes its number apart
 module _ {Quiet : Machine → Type 0} {Shows : Machine → Fields → List ℕ → List ℕ → Type 0} {Same : Fields → List ℕ → Fields → List ℕ → Type 0}
