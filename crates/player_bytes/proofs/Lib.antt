@@ -1,3 +1,4 @@
 pub mod HeldLaws
+pub mod RoundLaws
 pub mod PlayLaws
 pub mod OnlyLaws
