@@ -107,12 +107,12 @@ record-put p l o r k h e f =
     let ly : length y ≡ 4 = length-bytes 4 (p .left ∷ []) in
     f ∙ ap (λ (z : List ℕ). placed z (k + 4) y) e ∙ placed-more l k (k + 4) x y (omega arith) (omega arith)
 
-records-append : (xs ys : List Pending) → recordsBytes (xs ++ ys) ≡ recordsBytes xs ++ recordsBytes ys
+pub records-append : (xs ys : List Pending) → recordsBytes (xs ++ ys) ≡ recordsBytes xs ++ recordsBytes ys
 unfolding recordsBytes
 records-append [] ys = refl
 records-append (x ∷ xs) ys = rw (records-append xs ys) (sym (append-assoc (recordBytes x) (recordsBytes xs) (recordsBytes ys)))
 
-length-records : (xs : List Pending) → length (recordsBytes xs) ≡ length xs * 8
+pub length-records : (xs : List Pending) → length (recordsBytes xs) ≡ length xs * 8
 unfolding recordsBytes
 length-records [] = refl
 length-records (x ∷ xs) =

@@ -31,7 +31,7 @@ after m valid more n p x = fails-back (afterTable m []) more n p (table-law m .1
 passes-after : (m : Machine) (more : List Test) → Passes (afterTable m more) → Passes more
 passes-after m more x = passes-append (afterTable m []) more .0 x .1
 
-numbered : (m : Machine) (c : Config) (l : List Pending) (mv : Move) → Numbered (moveTests m c l mv)
+pub numbered : (m : Machine) (c : Config) (l : List Pending) (mv : Move) → Numbered (moveTests m c l mv)
 numbered m c l (Time t) = (omega arith, omega arith, tt)
 numbered m c l (Input i) =
     (omega arith, omega arith, (omega arith, omega arith, (omega arith, omega arith, (omega arith, omega arith, (omega arith, omega arith, tt)))))
