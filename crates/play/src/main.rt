@@ -9,53 +9,11 @@ use table::Cells;
 use table::Checked;
 use table::Table;
 use table_file::Reading;
-ghost use Rattle.table.specs.Rows.{tableIn, machineOf};
-ghost use Rattle.player.specs.Answer.{answerFields};
-ghost use Rattle.player.specs.Moves.{PlayOutcome};
-
-// What is handed back of a move, with the list as it stands then.
-struct After {
-    moved: Moved,
-    list: [Pending; 240],
-}
 
 // What is asked next.
 enum Asked {
     End,
     Turn(Move),
-}
-
-// One move of the player, on a list by value.
-fn step(
-    c: Config,
-    states: u16,
-    initial: u16,
-    count: usize,
-    cells: &Cells,
-    mut list: [Pending; 240],
-    m: Move,
-) -> After
-    ensures { λ r. ⌜ PlayOutcome (machineOf (tableIn states initial count (now (cells .entry)))) c list m
-        (answerFields (r .moved .answer)) (r .moved .config) (r .list) ⌝ }
-{
-    let moved = player::play(c, states, initial, count, cells, &mut list, m);
-    After {
-        moved: moved,
-        list: list,
-    }
-}
-
-// The documents' number of an answer, 0 if the move was made.
-fn number_of(a: Answer) -> usize {
-    match a {
-        Answer::Done(_, _) => 0,
-        Answer::Refused(r) => table::number(r) as usize,
-        Answer::Closed => 10,
-        Answer::Untimely => 11,
-        Answer::Split => 13,
-        Answer::Spent => 14,
-        Answer::Damaged => 15,
-    }
 }
 
 // `done` with an input's transition, or with an output's step and letter; or `refused N`.
@@ -65,7 +23,7 @@ fn say_answer(a: Answer) {
         return;
     }
     saying::say(b"refused ");
-    saying::number(number_of(a));
+    saying::number(player::number(a) as usize);
 }
 
 fn say_record(p: Pending) {
@@ -130,7 +88,7 @@ fn moves(
         let Asked::Turn(m) = a else {
             return;
         };
-        let after = step(config, states, initial, count, cells, list, m);
+        let after = player::play_held(config, states, initial, count, cells, list, m);
         list = after.list;
         let moved = after.moved;
         config = moved.config;

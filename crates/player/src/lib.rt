@@ -49,6 +49,12 @@ pub struct Moved {
     pub answer: Answer,
 }
 
+// What a move hands back with a list by value.
+pub struct Held {
+    pub moved: Moved,
+    pub list: [Pending; 240],
+}
+
 // A sweep over the first n records.
 pub struct Plan {
     pub n: usize,
@@ -60,6 +66,21 @@ pub struct Decided {
     pub moved: Moved,
     pub n: usize,
     pub work: Work,
+}
+
+// The number of an answer.
+pub fn number(a: Answer) -> u16
+    ensures { λ n. ⌜ n ≡ answerFields a .status ⌝ }
+{
+    match a {
+        Answer::Done(_, _) => 0,
+        Answer::Refused(r) => table::number(r),
+        Answer::Closed => 10,
+        Answer::Untimely => 11,
+        Answer::Split => 13,
+        Answer::Spent => 14,
+        Answer::Damaged => 15,
+    }
 }
 
 // The timer stops counting at 4,096 ticks.
@@ -349,4 +370,26 @@ pub fn play(
     let d = decide(c, states, initial, count, cells, list.len(), w, m);
     records::sweep(list, d.n, d.work);
     d.moved
+}
+
+// The same on a list by value: the one place that lends a list of its own.
+pub fn play_held(
+    c: Config,
+    states: u16,
+    initial: u16,
+    count: usize,
+    cells: &Cells,
+    list: [Pending; 240],
+    m: Move,
+) -> Held
+    ensures { λ r. ⌜ PlayOutcome (machineOf (tableIn states initial count (now (cells .entry)))) c list m
+        (answerFields (r .moved .answer)) (r .moved .config) (r .list) ⌝ }
+{
+    let mut own = list;
+    let moved = play(c, states, initial, count, cells, &mut own, m);
+    let left = own;
+    Held {
+        moved: moved,
+        list: left,
+    }
 }

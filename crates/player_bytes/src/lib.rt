@@ -1,20 +1,12 @@
 // The bench player in bytes: the table as a file, a configuration of ten bytes, records of eight.
 use player::Answer;
 use player::Move;
-use player::Moved;
-use records::Pending;
 use table::Checked;
 ghost use Rattle.player.specs.Answer.{answerFields};
 ghost use Rattle.player_bytes.specs.Plays.{StartBytesOutcome, PlayBytesOutcome};
 
 mod held;
 mod plays;
-
-// What a move hands back: the configuration with the answer, and the records.
-pub(crate) struct Passed {
-    pub moved: Moved,
-    pub list: [Pending; 240],
-}
 
 // The start on a table file.
 pub fn start_bytes(file: &[u8], config: &mut [u8], waiting: &mut [u8]) -> Answer

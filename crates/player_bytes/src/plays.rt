@@ -1,5 +1,4 @@
 // The moves on a table that was read.
-use crate::Passed;
 use crate::held;
 use player::Answer;
 use player::Config;
@@ -8,50 +7,13 @@ use records::Pending;
 use table::Cells;
 use table::Refusal;
 use table_file::FileRead;
-ghost use mathlib.Core.Path.{_≡_};
 ghost use Prim.Native.Nat.{_<_};
 ghost use lib.ListN.{take};
 ghost use Rattle.model.specs.Table.{Valid};
-ghost use Rattle.table.specs.Rows.{tableIn, machineOf};
+ghost use Rattle.table.specs.Rows.{machineOf};
 ghost use Rattle.table_file.specs.File.{heldIn};
 ghost use Rattle.player.specs.Answer.{answerFields};
-ghost use Rattle.player.specs.Moves.{PlayOutcome};
 ghost use Rattle.player_bytes.specs.Plays.{StartOnMachine, ShortOutcome, PlayOnMachine};
-
-// A move with records by value, lent to it.
-fn pass(
-    c: Config,
-    states: u16,
-    initial: u16,
-    count: usize,
-    cells: &Cells,
-    mut list: [Pending; 240],
-    m: Move,
-) -> Passed
-    ensures { λ r. ⌜ PlayOutcome (machineOf (tableIn states initial count (now (cells .entry)))) c list m
-        (answerFields (r .moved .answer)) (r .moved .config) (r .list) ⌝ }
-{
-    let moved = player::play(c, states, initial, count, cells, &mut list, m);
-    Passed {
-        moved: moved,
-        list: list,
-    }
-}
-
-// The number of an answer.
-fn status(a: Answer) -> u16
-    ensures { λ n. ⌜ n ≡ answerFields a .status ⌝ }
-{
-    match a {
-        Answer::Done(_, _) => 0,
-        Answer::Refused(r) => table::number(r),
-        Answer::Closed => 10,
-        Answer::Untimely => 11,
-        Answer::Split => 13,
-        Answer::Spent => 14,
-        Answer::Damaged => 15,
-    }
-}
 
 // The start with so many records lent.
 pub(crate) fn start_on(read: FileRead, cells: &Cells, config: &mut [u8], lent: usize) -> Answer
@@ -64,7 +26,7 @@ pub(crate) fn start_on(read: FileRead, cells: &Cells, config: &mut [u8], lent: u
     }
     let moved = player::start(read.states, read.initial, read.count, cells, lent);
     let answer = moved.answer;
-    if 0 < status(answer) {
+    if 0 < player::number(answer) {
         return answer;
     }
     held::put_config(config, moved.config);
@@ -80,7 +42,7 @@ fn short(read: FileRead, cells: &Cells, c: Config, list: [Pending; 240], lent: u
     if lent < (c.waiting as usize) {
         return Answer::Damaged;
     }
-    let p = pass(
+    let p = player::play_held(
         c,
         read.states,
         read.initial,
@@ -91,7 +53,7 @@ fn short(read: FileRead, cells: &Cells, c: Config, list: [Pending; 240], lent: u
     );
     let moved = p.moved;
     let answer = moved.answer;
-    if 0 < status(answer) {
+    if 0 < player::number(answer) {
         return Answer::Damaged;
     }
     Answer::Refused(Refusal::NoRoom)
@@ -118,10 +80,10 @@ pub(crate) fn play_on(
     if lent < 240 {
         return short(read, cells, c, list, lent);
     }
-    let p = pass(c, read.states, read.initial, read.count, cells, list, m);
+    let p = player::play_held(c, read.states, read.initial, read.count, cells, list, m);
     let moved = p.moved;
     let answer = moved.answer;
-    if 0 < status(answer) {
+    if 0 < player::number(answer) {
         return answer;
     }
     held::put_config(config, moved.config);

@@ -1,11 +1,6 @@
 use borrow.Author.Needs.{needs}
 use native.Mathlib.Omega.{arith}
-use native.Mathlib.Numerals.{add-one}
-use mathlib.Core.Path.{_≡_, refl, sym, ap, _∙_}
-use mathlib.Core.Bool.{Bool, true, false}
-use mathlib.Core.List.{List, [], _∷_, _++_}
-use Prim.Native.Nat.{ℕ, _+_, _*_, _≤_, _<_, _-_}
-use lib.ListN.{length, take, drop, getD, set}
+use mathlib.Core.Path.{refl}
 use Rattle.table.specs.Rows.{machineOf}
 use Rattle.table_file.specs.File.{heldIn}
 use mathlib.Core.Logic.{inl}
@@ -13,15 +8,6 @@ use Rattle.table.specs.Tests.{refuses}
 use Rattle.player_bytes.proofs.PlayLaws.{on-short, on-refused, on-done}
 use Rattle.player_bytes.proofs.plays.play_on.Statement.{statement}
 use Rattle.player_bytes.proofs.plays.play_on.Tie as tie
-use Rattle.player_bytes.proofs.plays.play_on.Reads as reads
-use Rattle.player_bytes.proofs.plays.play_on.Lts as lts
-use Rattle.player_bytes.proofs.held.config_in.Reads as config-in-reads
-use Rattle.player_bytes.proofs.held.put_config.Reads as put-config-reads
-use Rattle.player_bytes.proofs.held.put_records.Reads as put-records-reads
-use Rattle.player_bytes.proofs.held.records_in.Reads as records-in-reads
-use Rattle.player_bytes.proofs.plays.pass.Reads as pass-reads
-use Rattle.player_bytes.proofs.plays.short.Reads as short-reads
-use Rattle.player_bytes.proofs.plays.status.Reads as status-reads
 
 returns : tie.Need-returns
 returns c = refuses refl (inl ((λ r. omega (arith, r)), refl, refl)) (refl, refl)
@@ -49,11 +35,11 @@ returns-2 c =
     on-short m (s .pre) (a .config .now) (a .waiting .now) (a .m) (omega arith) (c .before .before .before .before .config-in .ensures)
     (c .before .before .records-in .ensures) (omega arith) (c .short .ensures)
 
-pass-requires : tie.Need-pass-requires
-pass-requires c κs = search needs
+play-held-requires : tie.Need-play-held-requires
+play-held-requires c κs = search needs
 
-status-requires : tie.Need-status-requires
-status-requires c κs = search needs
+number-requires : tie.Need-number-requires
+number-requires c κs = search needs
 
 same-length-3 : tie.Need-same-length-3
 same-length-3 c = search needs
@@ -68,7 +54,7 @@ returns-3 c =
     let m = machineOf (heldIn (a .read) (a .cells .now)) in
     on-refused m (s .pre) (a .config .now) (a .waiting .now) (a .m) (omega arith)
     (c .before .before .before .before .before .before .before .config-in .ensures) (c .before .before .before .before .before .records-in .ensures)
-    (omega arith) (omega (arith, c .before .status .ensures)) (c .before .before .before .pass .ensures)
+    (omega arith) (omega (arith, c .before .number .ensures)) (c .before .before .before .play-held .ensures)
 
 put-config-requires : tie.Need-put-config-requires
 put-config-requires c κs = search needs
@@ -90,9 +76,9 @@ returns-4 c =
     on-done m (s .pre) (a .config .now) (a .waiting .now) (a .m) (omega
     (arith, c .before .before .before .before .before .before .before .before .before .before .before .before .before .before .before .before .before .before .if1 .left)) (c .before .before .before .before .before .before .before .before .before .before .before .before .before .before .before .before .config-in .ensures) (c .before .before .before .before .before .before .before .before .before .before .before .before .before .before .records-in .ensures)
     (omega (arith, c .before .before .before .before .before .before .before .before .before .before .before .before .before .if2 .left)) (omega
-    (arith, c .before .before .before .before .before .before .before .before .before .before .status .ensures))
+    (arith, c .before .before .before .before .before .before .before .before .before .before .number .ensures))
     (c .before .before .before .before .before .before .before .put-config .ensures) (c .before .before .put-records .ensures)
-    (c .before .before .before .before .before .before .before .before .before .before .before .before .pass .ensures)
+    (c .before .before .before .before .before .before .before .before .before .before .before .before .play-held .ensures)
 
 pub play-on-spec : {M : Type 1} → statement M
 play-on-spec =
@@ -105,8 +91,8 @@ play-on-spec =
     same-length
     same-length-2
     returns-2
-    pass-requires
-    status-requires
+    play-held-requires
+    number-requires
     same-length-3
     same-length-4
     returns-3

@@ -1,5 +1,5 @@
--- `play::step` meets its contract: a walk of its MIR, by hand. It lends its own list to `player::play` for the call, and takes it back.
--- All that is known of `player::play` is that it meets its contract.
+-- `player::play_held` meets its contract: a walk of its MIR, by hand. It lends its own list to `play` for the call, and takes it back.
+-- All that is known of `play` is that it meets its contract.
 -- Assumes nothing.
 use Rattle.records.proofs.Walk.{
   _≡_,
@@ -119,7 +119,7 @@ use Rattle.records.proofs.Walk.{
   sliceVal,
   MutSlice,
   Room,
-  Held,
+  Held as Lent,
   row,
   only,
   owned,
@@ -176,29 +176,29 @@ use denote.Triple.Walked.{stay-dropped, goes-dropped}
 use Rattle.records.specs.declared.Pending.{Pending}
 use Rattle.records.proofs.Pending as T
 use Rattle.records.proofs.Pending.Laws as T′
 use Rattle.player.specs.declared.Config.{Config}
 use Rattle.player.specs.declared.Move.{Move}
 use Rattle.player.specs.declared.Moved.{Moved}
 use Rattle.table.specs.Rows.{tableIn, machineOf}
 use Rattle.player.specs.Answer.{answerFields}
 use Rattle.player.specs.Moves.{PlayOutcome}
 use Rattle.player.proofs.Config as Cf
 use Rattle.player.proofs.Config.Laws as Cf′
 use Rattle.player.proofs.Move as Mv
 use Rattle.player.proofs.Move.Laws as Mv′
 use Rattle.player.proofs.Moved as Md
 use Rattle.player.proofs.Moved.Laws as Md′
 use Rattle.player.proofs.play as play
 use Rattle.player.proofs.play.Symbol as play-def
 use Rattle.player.proofs.play.Symbol.{name as #player·play}
 use Rattle.player.proofs.play.Met as play-thm
-use Rattle.play.specs.declared.After.{After}
-use Rattle.play.proofs.After as Af
-use Rattle.play.proofs.After.Laws as Af′
-use Rattle.play.proofs.step.Key.{name as #play·step}
-use Rattle.play.proofs.step as step
-use Rattle.play.proofs.step.Statement as stated
-use Rattle.play.proofs.step.Code as code
+use Rattle.player.specs.declared.Held.{Held}
+use Rattle.player.proofs.Held as Hd
+use Rattle.player.proofs.Held.Laws as Hd′
+use Rattle.player.proofs.play_held.Key.{name as #player·play-held}
+use Rattle.player.proofs.play_held as play-held
+use Rattle.player.proofs.play_held.Statement as stated
+use Rattle.player.proofs.play_held.Code as code
 
 -- the cells, behind a shared reference
 abbrev Shr : Lft → RattleType
@@ -214,7 +214,7 @@ Rows = Array T.the-row 240
 abbrev rowed : Slot 1
 rowed = ArrayOf (plain (λ _. T.the-row)) (λ _. tt) 240
 
-abbrev stayed : Stays (step.ended .signature .params) (step.ended .kept)
+abbrev stayed : Stays (play-held.ended .signature .params) (play-held.ended .kept)
 stayed = (
   stay-none (λ _. Cf.the-row) yes,
   (
@@ -251,11 +251,11 @@ map-long [] = refl
 map-long (y ∷ ys) = ap suc (map-long ys)
 
 -- what is handed back
-abbrev both : Moved → List Pending → After
+abbrev both : Moved → List Pending → Held
 both r zs = record { moved = r; list = zs }
 
 is-both : (r : Moved) (zs : List Pending) (v u : Val) → Is Md.the-row r (v ∷ []) → Is Rows zs (u ∷ [])
-    → Is Af.the-row (both r zs) (vstruct (ofList (v ∷ u ∷ [])) ∷ [])
+    → Is Hd.the-row (both r zs) (vstruct (ofList (v ∷ u ∷ [])) ∷ [])
 is-both r zs v u g h = ((v ∷ [], (u ∷ [], tt)), (refl, (g, ((h .0, ((h .1 .0 .0, map-long zs ∙ h .1 .0 .1), each-in zs (h .0) (h .1 .1))), tt))))
 
 module _ {M : Type 1} (𝓤 : URA M) (H : Heap 𝓤) (A : Atoms 𝓤) (W : Given 𝓤 H A) where
@@ -311,7 +311,7 @@ module _ {M : Type 1} (𝓤 : URA M) (H : Heap 𝓤) (A : Atoms 𝓤) (W : Given
   vals v = (vc ∷ [], (vint w16 states ∷ [], (vint w16 initial ∷ [], (vint w64 count ∷ [], (vr ∷ [], (v ∷ [], (vm ∷ [], tt)))))))
 
   abbrev Post : Val → SProp 𝓤
-  Post = walkOf 𝓤 H A step.ended stayed (step.clauses 𝓤 H A mem″ run) .post (((κ₀, tt), (q₀, tt), tt, a, vals va), tt)
+  Post = walkOf 𝓤 H A play-held.ended stayed (play-held.clauses 𝓤 H A mem″ run) .post (((κ₀, tt), (q₀, tt), tt, a, vals va), tt)
 
   abbrev Says : Moved → List Pending → Type 0
   Says r zs = PlayOutcome (machineOf (tableIn states initial count (cs .now))) c ys m (answerFields (r .answer)) (r .config) zs
@@ -322,17 +322,17 @@ module _ {M : Type 1} (𝓤 : URA M) (H : Heap 𝓤) (A : Atoms 𝓤) (W : Given
   room : Room T.the-row (length ys)
   room = subst (Room T.the-row) (sym long) room240
 
-  exits : (r : Moved) (zs : List Pending) (v : Val) → Says r zs → Is Af.the-row (both r zs) (v ∷ []) → ent 𝓤 (A .lft κ₀ q₀) (Post v)
+  exits : (r : Moved) (zs : List Pending) (v : Val) → Says r zs → Is Hd.the-row (both r zs) (v ∷ []) → ent 𝓤 (A .lft κ₀ q₀) (Post v)
   exits r zs v e g =
       qed W (‵ (flft κ₀ q₀) ∷ []) ∵ nothing ! $ move ! (1 ∷ 0 ∷ []) $ join ! $
-      suffices ! _ (ends-at 𝓤 H A step.ended stayed (step.clauses 𝓤 H A mem″ run) W (((κ₀, tt), (q₀, tt), tt, a, vals va), tt) v (both r zs)
+      suffices ! _ (ends-at 𝓤 H A play-held.ended stayed (play-held.clauses 𝓤 H A mem″ run) W (((κ₀, tt), (q₀, tt), tt, a, vals va), tt) v (both r zs)
       (tt, (tt, (tt, (tt, (tt, (tt, (tt, tt))))))) (tt, (tt, (tt, (tt, (tt, (tt, (tt, tt)))))))) $ says ! e $ frame ! $
       nothing ! $ owned ! Mv.the-row (Is Mv.the-row) (EL.makes Mv.the-type Mv′.the-plain 𝓤 H A) m _ gm $ fjoin ! $ nothing ! $ fjoin ! $ nothing ! $ fjoin ! $
       owned ! usize (Is usize) (uint-makes 𝓤 H A W w64) count _ (refl, gn) $ fjoin ! $ owned ! u16 (Is u16) (uint-makes 𝓤 H A W w16) initial _ (refl, gi) $
       fjoin ! $
       owned ! u16 (Is u16) (uint-makes 𝓤 H A W w16) states _ (refl, gs) $ fjoin ! $
       owned ! Cf.the-row (Is Cf.the-row) (LL.makes Cf.the-type Cf′.the-plain 𝓤 H A) c _ gc $ fjoin ! $ frame ! $
-      owned ! Af.the-row (Is Af.the-row) (LL.makes Af.the-type Af′.the-plain 𝓤 H A) (both r zs) _ g $ done !
+      owned ! Hd.the-row (Is Hd.the-row) (LL.makes Hd.the-type Hd′.the-plain 𝓤 H A) (both r zs) _ g $ done !
 
   -- the list, lent in the local at b under the name δ
   abbrev x : ℕ → GName → RefT (List Pending)
@@ -368,7 +368,7 @@ module _ {M : Type 1} (𝓤 : URA M) (H : Heap 𝓤) (A : Atoms 𝓤) (W : Given
   Lasts = Unit {0} × (Unit {0} × (Unit {0} × (Unit {0} × (Unit {0} × (List Pending × (Unit {0} × Unit {0}))))))
 
   module _ (C : Calls 𝓤 H) (Λ : Loops 𝓤 H) (fm : FmC 𝓤 H (W .laws) C) (known : Triple 𝓤 (C #player·play) (Play 𝓤 H A mem″ run)) where
-    walk : ent 𝓤 (onEntry 𝓤 H A step.signature (κ₀, tt) (q₀, tt) a (vals va)) (WpFn 𝓤 H C Λ code.function
+    walk : ent 𝓤 (onEntry 𝓤 H A play-held.signature (κ₀, tt) (q₀, tt) a (vals va)) (WpFn 𝓤 H C Λ code.function
         (vc ∷ vint w16 states ∷ vint w16 initial ∷ vint w64 count ∷ vr ∷ va ∷ vm ∷ []) Post)
     walk =
         qed W ((‵ (flft κ₀ q₀) ⊛ ‵ ftrue) ∷ ‵ (owns (Cf.the-row ∷ u16 ∷ u16 ∷ usize ∷ Shr κ₀ ∷ Rows ∷ Mv.the-row ∷ []) a (vals va)) ∷ []) ∵
@@ -382,13 +382,13 @@ module _ {M : Type 1} (𝓤 : URA M) (H : Heap 𝓤) (A : Atoms 𝓤) (W : Given
         pass1 ! (init ! 10 refl (EL.lawful Mv.the-type Mv′.the-laws 𝓤 H A W tt .typed m _ gm .0)) $ pass0 ! $
         -- [_12; …; _0; …; the token; what the parameters own]: local k at 2 (12 - k)
         assigns ! (of-opd ! (load ! (from ! (stop !)) (look ! 12 refl))) (from ! (stop !)) (init ! 8 refl (typed ys _ ga .0)) $
-        assigns ! (addr ! (from ! (stop !))) (from ! (stop !)) (init ! 4 refl (tt, tt)) $
-        assigns ! (agg ! (and-then ! (load ! (from ! (stop !)) (look ! 4 refl)) (and-then ! (lit ! tt) (no-more !)))) (from ! (stop !)) (init ! 2 refl
+        assigns ! (addr ! (from ! (stop !))) (from ! (stop !)) (init ! 2 refl (tt, tt)) $
+        assigns ! (agg ! (and-then ! (load ! (from ! (stop !)) (look ! 2 refl)) (and-then ! (lit ! tt) (no-more !)))) (from ! (stop !)) (init ! 0 refl
         (tt, (tt, (record { fits = lit< tt }, tt)))) $
-        rewrite ! 2 (λ (k : ℕ). ‵ (fat fullShare (tyOf (code.function .locals) 11) l₁₁ 0 (sliceVal (l₈, 0) k))) (sym long) refl $
+        rewrite ! 0 (λ (k : ℕ). ‵ (fat fullShare (tyOf (code.function .locals) 12) l₁₂ 0 (sliceVal (l₈, 0) k))) (sym long) refl $
         -- the list is lent, for a lifetime ν of the call
         move ! (8 ∷ []) $ use1 W (‵ (cells (mem T.the-row) ys l₈ 0)) (goes-apart 𝓤 H A W ys va l₈ ga) $ lft-new ! tt (λ ν. move ! (1 ∷ []) $
-        use1 W (later (some (λ (δ : GName). ‵ (MutSlice (named 1) (ν ∷ []) T.the-row .own (x l₈ δ) (s l₈ ∷ [])) ⊛ ‵ (flent (ν ∷ []) (Held T.the-row
+        use1 W (later (some (λ (δ : GName). ‵ (MutSlice (named 1) (ν ∷ []) T.the-row .own (x l₈ δ) (s l₈ ∷ [])) ⊛ ‵ (flent (ν ∷ []) (Lent T.the-row
         (length ys) l₈ 0 δ))))) (lends-slice 𝓤 H A W T.the-row (named 1) (ν ∷ []) ys l₈ 0 room) $ await ! tt $ pick ! (λ δ. split ! $
         -- [the list; the lender's part; ν; _12; …; the cells' token at 28; what the parameters own]
         move ! (28 ∷ 29 ∷ []) $ split ! $ move ! (2 ∷ []) $ fsplit ! $ drop ! $ fsplit ! $ drop ! $ fsplit ! $ drop ! $ fsplit ! $ drop ! $ fsplit ! $
@@ -397,7 +397,7 @@ module _ {M : Type 1} (𝓤 : URA M) (H : Heap 𝓤) (A : Atoms 𝓤) (W : Given
         calls-at ! fm (Play 𝓤 H A mem″ run) known (to-play (ν ∷ []) l₈ δ)
         (and-then ! (load ! (from ! (stop !)) (look ! 25 refl)) (and-then ! (load ! (from ! (stop !)) (look ! 23 refl)) (and-then ! (load ! (from !
         (stop !)) (look ! 21 refl)) (and-then ! (load ! (from ! (stop !)) (look ! 19 refl)) (and-then ! (load ! (from ! (stop !)) (look ! 17 refl))
-        (and-then ! (load ! (from ! (stop !)) (look ! 6 refl)) (and-then ! (load ! (from ! (stop !)) (look ! 13 refl)) (no-more !)))))))) (λ v.
+        (and-then ! (load ! (from ! (stop !)) (look ! 4 refl)) (and-then ! (load ! (from ! (stop !)) (look ! 13 refl)) (no-more !)))))))) (λ v.
         use1 W (later (some (λ (r : Moved). ((‵ (flft κ₀ q₀) ⊛ (‵ (flft (ν ∷ []) fullShare) ⊛ ‵ ftrue)) ⊛ ‵ (Md.the-row .own r (v ∷ []))) ⊛ raw
         (ensured 𝓤 H A play.ended (play.clauses 𝓤 H A mem″ run) (κ₀, (ν ∷ [], tt)) (pa l₈ δ) tt r)))) (id⊢ 𝓤 _) $ await ! tt $ pick ! (λ r.
         split ! $ move ! (1 ∷ []) $ use1 W (some (λ (ls : Lasts). ‵ (lasts play.ended (κ₀, (ν ∷ [], tt)) (pa l₈ δ) ls)
@@ -411,11 +411,11 @@ module _ {M : Type 1} (𝓤 : URA M) (H : Heap 𝓤) (A : Atoms 𝓤) (W : Given
         use3 W (later (‵ (Arr (mem T.the-row) (length ys) .lies zs l₈ 0))) (slice-back 𝓤 H A W T.the-row (ν ∷ []) δ zs (length ys) l₈ 0) $ await ! tt $
         use1 W (some (λ (u : Val). given (Is Rows zs (u ∷ [])) (‵ (fat fullShare arrTy l₈ 0 u)))) (comes-whole 𝓤 H A W (length ys) long zs l₈) $
         pick ! (λ u. learn ! (λ iu.
-        -- [_8; true; the cells' token; true; what the others own; true; _12 at 6; …; _9 at 12; …; _8's end at 14; _7 at 15; …]
-        assigns ! (of-opd ! (load ! (from ! (stop !)) (look ! 0 refl))) (from ! (stop !)) (init ! 6 refl (typed zs _ iu .0)) $
+        -- [_8; true; the cells' token; true; what the others own; true; _12 at 6; …; _10 at 10; _9 at 12; …; _8's end at 14; _7 at 15; …]
+        assigns ! (of-opd ! (load ! (from ! (stop !)) (look ! 0 refl))) (from ! (stop !)) (init ! 10 refl (typed zs _ iu .0)) $
         let ib = is-both r zs v u ir iu in
-        assigns ! (agg ! (and-then ! (load ! (from ! (stop !)) (look ! 12 refl)) (and-then ! (load ! (from ! (stop !)) (look ! 6 refl)) (no-more !))))
-        (from ! (stop !)) (init ! 29 refl (LL.lawful Af.the-type Af′.the-laws 𝓤 H A W .typed (both r zs) _ ib .0)) $
+        assigns ! (agg ! (and-then ! (load ! (from ! (stop !)) (look ! 12 refl)) (and-then ! (load ! (from ! (stop !)) (look ! 10 refl)) (no-more !))))
+        (from ! (stop !)) (init ! 29 refl (LL.lawful Hd.the-type Hd′.the-laws 𝓤 H A W .typed (both r zs) _ ib .0)) $
         returns ! (look ! 29 refl) $
         forget ! 0 refl $ forget ! 6 refl $ forget ! 8 refl $ forget ! 10 refl $ forget ! 12 refl $ forget ! 15 refl $ forget ! 17 refl $
         forget ! 19 refl $ forget ! 21 refl $ forget ! 23 refl $ forget ! 25 refl $ forget ! 27 refl $ forget ! 29 refl $
@@ -429,9 +429,9 @@ module _ {M : Type 1} (𝓤 : URA M) (H : Heap 𝓤) (A : Atoms 𝓤) (W : Given
   abbrev listed : List Pending → List Val
   listed = array-vals (LL.vals T.the-type T′.the-laws)
 
-  step-walks : (C : Calls 𝓤 H) (Λ : Loops 𝓤 H) → FmC 𝓤 H (W .laws) C → Triple 𝓤 (C #player·play) (Play 𝓤 H A mem″ run)
-      → Walks 𝓤 H A step.ended stayed (WpFn 𝓤 H C Λ code.function) (step.clauses 𝓤 H A mem″ run)
-  step-walks C Λ fm known = walked 𝓤 H A step.ended stayed (step.clauses 𝓤 H A mem″ run) (WpFn 𝓤 H C Λ code.function)
+  play-held-walks : (C : Calls 𝓤 H) (Λ : Loops 𝓤 H) → FmC 𝓤 H (W .laws) C → Triple 𝓤 (C #player·play) (Play 𝓤 H A mem″ run)
+      → Walks 𝓤 H A play-held.ended stayed (WpFn 𝓤 H C Λ code.function) (play-held.clauses 𝓤 H A mem″ run)
+  play-held-walks C Λ fm known = walked 𝓤 H A play-held.ended stayed (play-held.clauses 𝓤 H A mem″ run) (WpFn 𝓤 H C Λ code.function)
       (λ κs. (
         LL.vals Cf.the-type Cf′.the-laws,
         (uint-vals w16, (uint-vals w16, (uint-vals w64, (ptr-vals, (listed, (EL.vals Mv.the-type Mv′.the-laws, tt)))))),
@@ -461,11 +461,11 @@ module _ {M : Type 1} (𝓤 : URA M) (H : Heap 𝓤) (A : Atoms 𝓤) (W : Given
       (EL.val Mv.the-type Mv′.the-laws (a .1 .1 .1 .1 .1 .1 .0))
       (are .0) (are .1 .0 .1) (are .1 .1 .0 .1) (are .1 .1 .1 .0 .1) (are .1 .1 .1 .1 .1 .0) (are .1 .1 .1 .1 .1 .1 .0) C Λ fm known))
 
-step-meets : {M : Type 1} (𝓤 : URA M) (H : Heap 𝓤) (A : Atoms 𝓤) → Given 𝓤 H A → (mem″ : Memory → SProp 𝓤) (run : Routine → Fun 𝓤) (𝓣 : Tables 𝓤 H)
+play-held-meets : {M : Type 1} (𝓤 : URA M) (H : Heap 𝓤) (A : Atoms 𝓤) → Given 𝓤 H A → (mem″ : Memory → SProp 𝓤) (run : Routine → Fun 𝓤) (𝓣 : Tables 𝓤 H)
     → Triple 𝓤 (𝓣 .C #player·play) (Play 𝓤 H A mem″ run)
-    → Meets 𝓤 H A step.signature (WpFn 𝓤 H (𝓣 .C) (𝓣 .Λ) code.function) (step.spec 𝓤 H A mem″ run)
-step-meets 𝓤 H A W mem″ run 𝓣 known =
-    walk-meets 𝓤 H A step.ended stayed W (
+    → Meets 𝓤 H A play-held.signature (WpFn 𝓤 H (𝓣 .C) (𝓣 .Λ) code.function) (play-held.spec 𝓤 H A mem″ run)
+play-held-meets 𝓤 H A W mem″ run 𝓣 known =
+    walk-meets 𝓤 H A play-held.ended stayed W (
       goes-none 𝓤 H A W 1 (λ _. Cf.the-row) yes (λ κs x f. refl),
       (
         goes-none 𝓤 H A W 1 (λ _. u16) yes (λ κs x f. refl),
@@ -481,13 +481,13 @@ step-meets 𝓤 H A W mem″ run 𝓣 known =
         ),
       ),
     )
-    (step.clauses 𝓤 H A mem″ run) (WpFn 𝓤 H (𝓣 .C) (𝓣 .Λ) code.function) (WpFn-mono 𝓤 H (W .laws) 𝓣 code.function) (step-walks 𝓤 H A W mem″ run (𝓣 .C) (𝓣 .Λ)
+    (play-held.clauses 𝓤 H A mem″ run) (WpFn 𝓤 H (𝓣 .C) (𝓣 .Λ) code.function) (WpFn-mono 𝓤 H (W .laws) 𝓣 code.function) (play-held-walks 𝓤 H A W mem″ run (𝓣 .C) (𝓣 .Λ)
     (fmOf 𝓤 H (W .laws) 𝓣) known)
 
-pub step-spec : {M : Type 1} → stated.statement M
+pub play-held-spec : {M : Type 1} → stated.statement M
 unfolding code.routine tablesOf
-step-spec 𝓤 H 𝓜 𝓖 𝓡 =
-    entered 𝓤 H (tripleOf 𝓤 H (𝓖 .A) step.signature (step.spec 𝓤 H (𝓖 .A) (𝓜 .mem) (𝓡 .run)))
-    (tables 𝓤 H 𝓜 𝓡 code.env .C) (tables 𝓤 H 𝓜 𝓡 code.env .Λ) #play·step code.function (code.unfolded 𝓤 H 𝓜 𝓡)
-    (step-meets 𝓤 H (𝓖 .A) (givenOf 𝓤 H 𝓜 𝓖) (𝓜 .mem) (𝓡 .run) (tablesOf 𝓤 H 𝓜 (tables 𝓤 H 𝓜 𝓡 code.env))
+play-held-spec 𝓤 H 𝓜 𝓖 𝓡 =
+    entered 𝓤 H (tripleOf 𝓤 H (𝓖 .A) play-held.signature (play-held.spec 𝓤 H (𝓖 .A) (𝓜 .mem) (𝓡 .run)))
+    (tables 𝓤 H 𝓜 𝓡 code.env .C) (tables 𝓤 H 𝓜 𝓡 code.env .Λ) #player·play-held code.function (code.unfolded 𝓤 H 𝓜 𝓡)
+    (play-held-meets 𝓤 H (𝓖 .A) (givenOf 𝓤 H 𝓜 𝓖) (𝓜 .mem) (𝓡 .run) (tablesOf 𝓤 H 𝓜 (tables 𝓤 H 𝓜 𝓡 code.env))
     (cited 𝓤 H (Play 𝓤 H (𝓖 .A) (𝓜 .mem) (𝓡 .run)) 𝓜 𝓡 code.env #player·play play-def.routine code.calls-player·play (play-thm.met 𝓤 H 𝓜 𝓖 𝓡)))
