@@ -1,14 +1,16 @@
 -- Every field of an answer that an export allows fits its 16 bits: a host that takes the answer apart loses nothing.
-use mathlib.Core.Path.{_≡_, ap, _∙_}
+use mathlib.Core.Path.{_≡_, refl, sym, ap, _∙_, subst}
 use mathlib.Core.Logic.{inl, inr}
 use mathlib.Core.List.{List, [], _∷_}
 use Prim.Native.Nat.{ℕ, suc, _+_, _≤_, _<_}
 use native.Mathlib.Omega.{arith}
 use lib.ListN.{length, take, length-take}
 use Rattle.model.specs.Answers.{Fields, fields}
+use Rattle.model.specs.Lists.{All, In}
 use Rattle.model.specs.Table.{Transition, Machine}
 use Rattle.model.specs.Verdict.{Strict}
 use Rattle.model.specs.Stamps.{gapsFrom}
+use Rattle.model.proofs.Lists.{in-append, all-in, all-take}
 use Rattle.model.proofs.Paths.{length-steps}
 use Rattle.wire.specs.Bytes.{Bytes, wholes}
 use Rattle.table.specs.Tests.{Test, Passes, Fails, Answered, refuses, answers}
@@ -23,8 +25,15 @@ use Rattle.table_order.specs.OnOrder.{KeepsOrder, OrderShows, overtaken-shown}
 use Rattle.places.specs.ShownBytes.{ShownOnFile}
 use Rattle.places.specs.Places.{pathIn, traceTest}
 use Rattle.places.proofs.ReadingLaws.{of-file}
+use Rattle.records.specs.declared.Pending.{Pending}
+use Rattle.player.specs.declared.Config.{Config}
+use Rattle.player.specs.declared.Move.{Move}
+use Rattle.player.specs.declared.Move.the-variants.{Time, Input, Output}
+use Rattle.player.specs.Moves.{waitingIn, moveTests, MoveDone}
+use Rattle.player_bytes.specs.Records.{configIn, lentIn, recordsIn}
+use Rattle.player_bytes.proofs.RoundLaws.{Narrow, records-small}
 use Rattle.sandgusset.specs.Packed.{packed, unpacked, In16Bits}
-use Rattle.sandgusset.specs.Exports.{JudgeAnswer, OrderAnswer, JudgeTraceAnswer, ReplayAnswer, WordsAnswer, RewriteAnswer}
+use Rattle.sandgusset.specs.Exports.{JudgeAnswer, OrderAnswer, JudgeTraceAnswer, ReplayAnswer, WordsAnswer, RewriteAnswer, PlayerStartAnswer, PlayerAnswer}
 use Rattle.sandgusset.proofs.PackLaws.{packed-apart}
 
 -- the number and the place of each test fit where all before it hold
@@ -129,6 +138,44 @@ judge-fits b x = shown-fits Strict table-shows-fit 270 540 _ _ _ _ _ (x .said) b
 pub order-fits : {file trace₀ stamps₀ trace stamps : List ℕ} {r : ℕ} → Bytes file → (x : OrderAnswer file trace₀ stamps₀ r trace stamps) → In16Bits (x .said)
 order-fits b x = shown-fits KeepsOrder order-shows-fit 270 270 _ _ _ _ _ (x .said) b (x .outcome)
 
+pub player-start-fits : {file config₀ waiting₀ config waiting : List ℕ} {r : ℕ} (x : PlayerStartAnswer file config₀ waiting₀ r config waiting)
+    → In16Bits (x .said)
+player-start-fits {file} x =
+    of-file (readFile file) _ _ (λ n p e k. reader-fits file n p e (k .0))
+    (λ m e. answered-fits (omega arith, omega arith, λ h. (omega arith, omega arith, λ i. tt)) (λ p d. rw (d .0) (omega arith))) (x .outcome .0)
+
+moves-fit : (m : Machine) (c : Config) (l : List Pending) (mv : Move) → EachFits (moveTests m c l mv)
+moves-fit m c l (Time t) = (omega arith, omega arith, λ a. tt)
+moves-fit m c l (Input i) = (
+  omega arith,
+  omega arith,
+  λ a. (omega arith, omega arith, λ b. (omega arith, omega arith, λ s. (omega arith, omega arith, λ t. (omega arith, omega arith, λ w. tt)))),
+)
+moves-fit m c l Output = (omega arith, omega arith, λ a. tt)
+
+-- an input's transition, or an output's step and letter
+done-fits : (m : Machine) → length (m .transitions) ≤ 256 → (c : Config) (l : List Pending) → All Narrow l
+    → (mv : Move) (f : Fields) (c' : Config) (l' : List Pending) → MoveDone m c l mv f c' l' → In16Bits f
+done-fits m h c l s (Time t) f c' l' d = rw (d .says) (omega arith)
+done-fits m h c l s (Input i) f c' l' d = rw (d .says) (omega (arith, d .opened .known))
+done-fits m h c l s Output f c' l' d =
+    let it : Pending = d .first .it in
+    let here : In it (waitingIn c l) = subst (In it) (sym (d .first .stands)) (in-append it (d .first .before) (it ∷ d .first .after) .1 (inr (inl refl))) in
+    rw (d .says) (omega (arith, all-in (all-take (c .waiting) s) it here))
+
+pub player-fits : {file config₀ waiting₀ : List ℕ} {mv : Move} {r : ℕ} {config waiting : List ℕ} → Bytes file → Bytes waiting₀
+    → (x : PlayerAnswer file config₀ waiting₀ mv r config waiting) → In16Bits (x .said)
+player-fits {file} {config₀} {waiting₀} {mv} b w x =
+    of-file (readFile file) _ _ (λ n p e k. reader-fits file n p e (k .0))
+    (λ m e. answered-fits (
+      omega arith,
+      omega arith,
+      λ h. (omega arith, omega arith, λ i. (omega arith, omega arith, λ j. moves-fit m (configIn config₀) (recordsIn waiting₀) mv)),
+    )
+    (λ p d. done-fits m (sound file m b e .0 .few) (configIn config₀) (recordsIn waiting₀) (records-small waiting₀ w (lentIn waiting₀)) mv (x .said) (d .next)
+    (d .list) (d .done)))
+    (x .outcome)
+
 -- taken apart, an export's number is its answer's fields
 apart : {r : ℕ} {f : Fields} → r ≡ packed f → In16Bits f → unpacked r ≡ f
 apart {f = f} e h = ap unpacked e ∙ packed-apart f h
@@ -154,3 +201,11 @@ judge-apart b x = apart (x .packs) (judge-fits b x)
 pub order-apart : {file trace₀ stamps₀ trace stamps : List ℕ} {r : ℕ} → Bytes file → (x : OrderAnswer file trace₀ stamps₀ r trace stamps)
     → unpacked r ≡ x .said
 order-apart b x = apart (x .packs) (order-fits b x)
+
+pub player-start-apart : {file config₀ waiting₀ config waiting : List ℕ} {r : ℕ} (x : PlayerStartAnswer file config₀ waiting₀ r config waiting)
+    → unpacked r ≡ x .said
+player-start-apart x = apart (x .packs) (player-start-fits x)
+
+pub player-apart : {file config₀ waiting₀ : List ℕ} {mv : Move} {r : ℕ} {config waiting : List ℕ} → Bytes file → Bytes waiting₀
+    → (x : PlayerAnswer file config₀ waiting₀ mv r config waiting) → unpacked r ≡ x .said
+player-apart b w x = apart (x .packs) (player-fits b w x)
