@@ -37,8 +37,8 @@ take-more k (suc n) b =
     rw z (take-append-le k (recordsTo (k + n) b) (recordAt b ((k + n) * 8) ∷ []) (omega arith) ∙ take-more k n b)
 
 -- the first of them are the first of the bytes
-pub take-to : (k : ℕ) (b : List ℕ) → k ≤ 240 → take k (recordsTo 240 b) ≡ recordsTo k b
-take-to k b h = let e : k + (240 - k) ≡ 240 = omega arith in subst (λ (n : ℕ). take k (recordsTo n b) ≡ recordsTo k b) e (take-more k (240 - k) b)
+pub take-to : (k n : ℕ) (b : List ℕ) → k ≤ n → take k (recordsTo n b) ≡ recordsTo k b
+take-to k n b h = let e : k + (n - k) ≡ n = omega arith in subst (λ (j : ℕ). take k (recordsTo j b) ≡ recordsTo k b) e (take-more k (n - k) b)
 
 drop-all : (n : ℕ) (xs : List Pending) → length xs ≤ n → drop n xs ≡ []
 drop-all zero [] k = refl

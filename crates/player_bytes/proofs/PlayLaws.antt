@@ -31,7 +31,7 @@ after m valid more n p x = fails-back (afterTable m []) more n p (table-law m .1
 passes-after : (m : Machine) (more : List Test) → Passes (afterTable m more) → Passes more
 passes-after m more x = passes-append (afterTable m []) more .0 x .1
 
-pub numbered : (m : Machine) (c : Config) (l : List Pending) (mv : Move) → Numbered (moveTests m c l mv)
+numbered : (m : Machine) (c : Config) (l : List Pending) (mv : Move) → Numbered (moveTests m c l mv)
 numbered m c l (Time t) = (omega arith, omega arith, tt)
 numbered m c l (Input i) =
     (omega arith, omega arith, (omega arith, omega arith, (omega arith, omega arith, (omega arith, omega arith, (omega arith, omega arith, tt)))))
@@ -160,7 +160,7 @@ module _ (m : Machine) (valid : Valid m) where
       on-short {f} h x =
           let k : length waiting₀ / 8 ≡ lentIn waiting₀ = omega arith in
           let t : take (length waiting₀ / 8) l ≡ l₀ =
-          ap (take (length waiting₀ / 8)) el ∙ take-to (length waiting₀ / 8) waiting₀ (omega arith) ∙ ap (λ (n : ℕ). recordsTo n waiting₀) k in
+          ap (take (length waiting₀ / 8)) el ∙ take-to (length waiting₀ / 8) 240 waiting₀ (omega arith) ∙ ap (λ (n : ℕ). recordsTo n waiting₀) k in
           played-short h (subst (λ (y : List Pending). ShortOutcome m c₀ y f) t (subst (λ (z : Config). ShortOutcome m z (take
           (length waiting₀ / 8) l) f) ec x))
 

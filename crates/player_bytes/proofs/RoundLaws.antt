@@ -42,6 +42,10 @@ unfolding bytes
 config-back c rest s =
     sym (config-is (configBytes c ++ rest) (omega (arith, s .0)) (omega (arith, s .1)) (omega (arith, s .2)) (omega (arith, s .3)))
 
+pub length-config : (c : Config) (rest : List ℕ) → length (configBytes c ++ rest) ≡ 10 + length rest
+unfolding bytes
+length-config c rest = omega arith
+
 record-back : (p : Pending) (rest : List ℕ) → Narrow p → recordAt (recordBytes p ++ rest) 0 ≡ p
 unfolding bytes
 record-back p rest s = sym (record-is (recordBytes p ++ rest) 0 (omega (arith, s .0)) (omega (arith, s .1)) (omega (arith, s .2)))
@@ -108,3 +112,17 @@ module _ (b : List ℕ) (are : Bytes b) where
   written-as-stood h =
       let n : lentIn b ≡ 240 = omega arith in
       rw (n, records-stood 240 (omega arith)) (take-append-drop 1920 b)
+
+-- two lists with the same records from n on, in bytes
+pub same-beyond : (n : ℕ) (l l' : List Pending) (r : List ℕ) → length l ≡ length l' → drop n l ≡ drop n l'
+    → drop (n * 8) (recordsBytes l ++ r) ≡ drop (n * 8) (recordsBytes l' ++ r)
+unfolding recordsBytes bytes
+same-beyond zero l l' r k e = ap (λ (x : List Pending). recordsBytes x ++ r) e
+same-beyond (suc n) [] [] r k e = refl
+same-beyond (suc n) [] (q ∷ l') r k e = absurd (omega arith)
+same-beyond (suc n) (p ∷ l) [] r k e = absurd (omega arith)
+same-beyond (suc n) (p ∷ l) (q ∷ l') r k e =
+    let s : suc n * 8 ≡ 8 + n * 8 = omega arith in
+    let a : List ℕ = recordBytes p ++ (recordsBytes l ++ r) in
+    let b : List ℕ = recordBytes q ++ (recordsBytes l' ++ r) in
+    rw s (sym (drop-drop (n * 8) 8 a) ∙ same-beyond n l l' r (omega arith) e ∙ drop-drop (n * 8) 8 b)
