@@ -31,13 +31,13 @@ pub record Lent (config waiting : List ℕ) : Type 0 where
   pub room : 240 ≤ length waiting / 8
   pub bytes : Bytes waiting
 
--- what stays in the records' buffer: bytes behind those that wait, before or after the call, and behind the 240th
-pub record Beyond (config₀ waiting₀ config waiting : List ℕ) : Type 0 where
-  pub unused : (n : ℕ) → configIn config₀ .waiting ≤ n → configIn config .waiting ≤ n → drop (n * 8) waiting ≡ drop (n * 8) waiting₀
+-- what stays in the records' buffer: the bytes behind those that wait after the call, and behind the 240th
+pub record Beyond (waiting₀ config waiting : List ℕ) : Type 0 where
+  pub unused : (n : ℕ) → configIn config .waiting ≤ n → drop (n * 8) waiting ≡ drop (n * 8) waiting₀
   pub behind : drop 1920 waiting ≡ drop 1920 waiting₀
 
-same-stays : {config₀ waiting₀ config waiting : List ℕ} → waiting ≡ waiting₀ → Beyond config₀ waiting₀ config waiting
-same-stays e = record { unused = λ n h h'. ap (drop (n * 8)) e; behind = ap (drop 1920) e }
+same-stays : {waiting₀ config waiting : List ℕ} → waiting ≡ waiting₀ → Beyond waiting₀ config waiting
+same-stays e = record { unused = λ n h. ap (drop (n * 8)) e; behind = ap (drop 1920) e }
 
 -- no waiting record is lost by taking no more than 240
 pub none-lost : (m : Machine) (c : Config) (w : List ℕ) → Whole m c (recordsIn w) → waitingIn c (recordsIn w) ≡ waitingIn c (recordsTo (length w / 8) w)
@@ -67,17 +67,17 @@ module _ (m : Machine) (valid : Valid m) (config₀ waiting₀ : List ℕ) (byte
     room : 240 ≤ length waiting₀ / 8
     room = tests .1 .1 .0
 
-    over : Over c₀ l₀ (did .next) (did .list)
+    over : Over m c₀ l₀ mv f (did .next) (did .list)
     over = done-over valid whole f (did .next) (did .list) mv (omega (arith, long room)) (tests .1 .1 .1) (did .done)
 
     all : length (did .list) ≡ 240
     all = over-length over ∙ long room
 
-    config-says : configIn config ≡ did .next
+    pub config-says : configIn config ≡ did .next
     config-says = ap configIn (did .config-is)
-        ∙ config-back (did .next) (drop 10 config₀) (done-slim valid whole f (did .next) (did .list) mv (tests .1 .1 .1) (did .done))
+        ∙ config-back (did .next) (drop 10 config₀) (done-slim valid whole f (did .next) (did .list) mv (did .done))
 
-    records-say : recordsIn waiting ≡ did .list
+    pub records-say : recordsIn waiting ≡ did .list
     records-say = ap recordsIn (did .waiting-is)
         ∙ written-back (did .list) all waiting₀ room (over-narrow over (records-small waiting₀ bytes (lentIn waiting₀)))
 
@@ -94,11 +94,11 @@ module _ (m : Machine) (valid : Valid m) (config₀ waiting₀ : List ℕ) (byte
       bytes = subst Bytes (sym (did .waiting-is)) (written-bytes (did .list) waiting₀ bytes);
     }
 
-    done-beyond : Beyond config₀ waiting₀ config waiting
+    done-beyond : Beyond waiting₀ config waiting
     done-beyond = record {
-      unused = λ n h h'.
+      unused = λ n h.
           ap (drop (n * 8)) (did .waiting-is)
-          ∙ same-beyond n (did .list) l₀ (drop 1920 waiting₀) (over-length over) (over-beyond over n h (omega (arith, h', ap (λ (c : Config). c .waiting) config-says)))
+          ∙ same-beyond n (did .list) l₀ (drop 1920 waiting₀) (over-length over) (over-beyond over n (omega (arith, h, ap (λ (c : Config). c .waiting) config-says)))
           ∙ ap (drop (n * 8)) (written-as-stood waiting₀ bytes room);
       behind = ap (drop 1920) (did .waiting-is) ∙ drop-at (recordsBytes (did .list)) (drop 1920 waiting₀) 1920 (length-records (did .list) ∙ omega (arith, all));
     }
@@ -118,7 +118,7 @@ module _ (m : Machine) (valid : Valid m) (config₀ waiting₀ : List ℕ) (byte
   on-lent h (answers p d) = done-lent p d
   on-lent h (refuses e x k) = subst (λ (c : List ℕ). Lent c waiting) (sym (k .0)) (subst (Lent config₀) (sym (k .1)) h)
 
-  on-beyond : PlayOnMachine m config₀ waiting₀ mv f config waiting → Beyond config₀ waiting₀ config waiting
+  on-beyond : PlayOnMachine m config₀ waiting₀ mv f config waiting → Beyond waiting₀ config waiting
   on-beyond (answers p d) = done-beyond p d
   on-beyond (refuses e x k) = same-stays (k .1)
 
@@ -130,7 +130,7 @@ module _ (file : List ℕ) (are : Bytes file) (config₀ waiting₀ : List ℕ) 
       (λ m e y. (m, e)) (o .0)
 
   -- "places beyond the waiting ones keep what they held", in bytes
-  pub beyond-kept : (mv : Move) (f : Fields) → PlayBytesOutcome file config₀ waiting₀ mv f config waiting → Beyond config₀ waiting₀ config waiting
+  pub beyond-kept : (mv : Move) (f : Fields) → PlayBytesOutcome file config₀ waiting₀ mv f config waiting → Beyond waiting₀ config waiting
   beyond-kept mv f o = of-file (readFile file) _ _ (λ n p e x. same-stays (x .2))
       (λ m e x. on-beyond m (sound file m are e .0) config₀ waiting₀ bytes mv f config waiting x) o
 
@@ -147,6 +147,9 @@ module _ (file : List ℕ) (are : Bytes file) (config₀ waiting₀ : List ℕ) 
           let x : StartOnMachine m config₀ (length waiting₀ / 8) (fields 0 0 0 0) config = on _ _ (o .0) in
           let a = answered-done (omega arith) (λ h k. omega arith) x in
           (a .0, a .1 .1)
+
+      pub start-room : Lent config₀ waiting₀
+      start-room = record { ten = done .0 .0 .0; room = done .0 .0 .1; bytes = bytes }
 
       pub start-lent : Lent config waiting
       start-lent = record {
