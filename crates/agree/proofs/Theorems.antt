@@ -135,7 +135,7 @@ module _ {m : Machine} {c : Config} {l : List Pending} {h : List Call} (chain : 
     same-word : spelled tr (gapsFrom 0 (stampsOf (wordOf h))) ≡ symbolsOf h
     same-word = symbols-back (trace-ranged ts (r .valid .ranged) (m .initial) (c .state) (traceOf h) takes-trace) steps-512 (wordOf h) refl activates
 
-    back : wordFrom tr 0 (stampsOf (wordOf h)) ≡ wordOf h
+    pub back : wordFrom tr 0 (stampsOf (wordOf h)) ≡ wordOf h
     unfolding wordFrom
     back = rw same-word
 
@@ -159,7 +159,7 @@ module _ {m : Machine} {c : Config} {l : List Pending} {h : List Call} (chain : 
       abbrev issuedTimes : List ℕ
       issuedTimes = map (λ x. x .time) (issuedOf h) ++ drop (length (traceOf h)) d₀
 
-      plays : ReplayOutcome m (traceOf h) 0 stamps o₀ d₀ (fields 0 0 0 0) issuedSteps issuedTimes
+      pub plays : ReplayOutcome m (traceOf h) 0 stamps o₀ d₀ (fields 0 0 0 0) issuedSteps issuedTimes
       plays = answers
           (valid-passes m (r .valid) (ownTests m (traceOf h) stamps o₀ d₀ ++ gapTests 0 tr (gapsFrom 0 stamps))
           (passes-append (ownTests m (traceOf h) stamps o₀ d₀) (gapTests 0 tr (gapsFrom 0 stamps)) .1

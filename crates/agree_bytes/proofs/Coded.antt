@@ -14,7 +14,7 @@ use Rattle.model.specs.Verdict.{Splits}
 use Rattle.wire.specs.Bytes.{Bytes}
 use Rattle.table.specs.Tests.{Passes, answers, afterTable}
 use Rattle.table.proofs.TestLaws.{answered-done}
-use Rattle.table_file.specs.File.{Scan, machine, readFile}
+use Rattle.table_file.specs.File.{machine, readFile}
 use Rattle.table_file.proofs.FileLaws.{sound}
 use Rattle.records.specs.declared.Pending.{Pending}
 use Rattle.player.specs.declared.Config.{Config}
@@ -25,7 +25,7 @@ use Rattle.agree.specs.Chain.{Call, Chain, begun, called, Small, traceOf, symbo
 use Rattle.agree.proofs.Chains.{accepted}
 use Rattle.agree.proofs.Theorems.{chain-whole}
 use Rattle.agree.proofs.Exists.{any-word, all-issued}
-use Rattle.places.specs.OnFile.{onFile}
+use Rattle.places.proofs.ReadingLaws.{at-machine}
 use Rattle.player_bytes.specs.Records.{configIn, configBytes, lentIn, recordsIn, recordsBytes}
 use Rattle.player_bytes.specs.Plays.{StartOnMachine, StartBytesOutcome, playTestsIn, PlayedIn, PlayOnMachine}
 use Rattle.player_bytes.proofs.HeldLaws.{length-to}
@@ -53,9 +53,6 @@ module _ (file : List ℕ) (are : Bytes file) (m : Machine) (read : readFile fil
   valid : Valid m
   valid = sound file m are read .0
 
-  on : (P : ℕ → ℕ → Type 0) (Q : Machine → Type 0) → Q m → onFile (readFile file) P Q
-  on P Q x = subst (λ (s : Scan). onFile s P Q) (sym read) x
-
   module _ (c : Config) (l : List Pending) (o : StartOutcome m (length l) (fields 0 0 0 0) c) where
     abbrev opening : List ℕ
     opening = configBytes (fresh (m .initial)) ++ drop 10 config₀
@@ -67,7 +64,7 @@ module _ (file : List ℕ) (are : Bytes file) (m : Machine) (read : readFile fil
     start =
         let x : StartOnMachine m config₀ (length waiting₀ / 8) (fields 0 0 0 0) opening =
         answers ((room .ten, room .room), (started .0 .1 .1 .1 .1 .0, tt)) (refl, refl) in
-        (on _ _ x, refl)
+        (at-machine (readFile file) m read _ _ .1 x, refl)
 
     coded-start : Coded file config₀ waiting₀ c l []
     coded-start =
@@ -136,7 +133,7 @@ module _ (file : List ℕ) (are : Bytes file) (m : Machine) (read : readFile fil
         record {
           config = config;
           waiting = waiting;
-          chain = called-bytes mv i j (y .chain) s (on _ _ x);
+          chain = called-bytes mv i j (y .chain) s (at-machine (readFile file) m read _ _ .1 x);
           says = config-says m valid (y .config) (y .waiting) (lent .bytes) mv f config waiting tests did;
           same = ap (waitingIn c') (records-say m valid (y .config) (y .waiting) (lent .bytes) mv f config waiting tests did)
               ∙ take-at (over .new) (drop (c' .waiting) k) (c' .waiting) (over .count)

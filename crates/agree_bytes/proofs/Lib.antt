@@ -1,3 +1,4 @@
 pub mod Decoded
 pub mod Theorems
+pub mod Replayed
 pub mod Coded

@@ -1,5 +1,6 @@
 -- What the reader's answer says of a file in bytes.
-use mathlib.Core.Path.{_≡_, refl, sym, ap, _∙_}
+use mathlib.Core.Path.{_≡_, refl, sym, ap, _∙_, subst}
+use mathlib.Core.Logic.{_↔_}
 use mathlib.Core.List.{List}
 use Prim.Native.Nat.{ℕ}
 use native.Mathlib.Omega.{arith}
@@ -77,3 +78,7 @@ pub of-file : (s : Scan) (P : ℕ → ℕ → Type 0) (Q : Machine → Type 0) {
     → ((m : Machine) → s ≡ machine m → Q m → C) → onFile s P Q → C
 of-file (machine m) P Q f g a = g m refl a
 of-file (stopped n p) P Q f g a = f n p refl a
+
+-- with the machine that was read
+pub at-machine : (s : Scan) (m : Machine) → s ≡ machine m → (P : ℕ → ℕ → Type 0) (Q : Machine → Type 0) → onFile s P Q ↔ Q m
+at-machine s m e P Q = (subst (λ (r : Scan). onFile r P Q) e, subst (λ (r : Scan). onFile r P Q) (sym e))

@@ -66,7 +66,7 @@ numbers-front l old f =
     take-les 2 (length l) (length (over (bytes 2 l) old) / 2) (over (bytes 2 l) old) 0 (omega arith) ∙ les-bytes 2 l rest f
 
 -- numbers of transitions fit two bytes
-known-fits : (n : ℕ) → n ≤ 256 → {l : List ℕ} → All (λ i. i < n) l → Held 2 l
+pub known-fits : (n : ℕ) → n ≤ 256 → {l : List ℕ} → All (λ i. i < n) l → Held 2 l
 known-fits n few all-nil = tt
 known-fits n few (all-cons h a) = (omega arith, known-fits n few a)
 

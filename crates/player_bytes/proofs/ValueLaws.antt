@@ -11,14 +11,13 @@ use Rattle.model.specs.Table.{Machine, Valid}
 use Rattle.wire.specs.Bytes.{Bytes}
 use Rattle.table.specs.Tests.{Test, unless, Passes, Fails, refuses, answers}
 use Rattle.table.proofs.TestLaws.{answered-done, valid-passes, valid-fails}
-use Rattle.table_file.specs.File.{Scan, machine, readFile}
+use Rattle.table_file.specs.File.{machine, readFile}
 use Rattle.table_file.proofs.FileLaws.{sound, places}
 use Rattle.records.specs.declared.Pending.{Pending}
 use Rattle.player.specs.declared.Config.{Config}
 use Rattle.player.specs.declared.Move.{Move}
 use Rattle.player.specs.Moves.{waitingIn, Whole, moveTests, PlayOutcome, StartOutcome, startTests, fresh}
-use Rattle.places.specs.OnFile.{onFile}
-use Rattle.places.proofs.ReadingLaws.{of-file}
+use Rattle.places.proofs.ReadingLaws.{of-file, at-machine}
 use Rattle.player_bytes.specs.Records.{configIn, configBytes, recordsTo, lentIn, recordsIn, recordsBytes}
 use Rattle.player_bytes.specs.Plays.{startTestsIn, StartOnMachine, StartBytesOutcome, playTestsIn, PlayedIn, PlayOnMachine, PlayBytesOutcome}
 use Rattle.player_bytes.proofs.HeldLaws.{length-to, take-to, length-records}
@@ -135,16 +134,13 @@ module _ (file : List ℕ) (are : Bytes file) (config₀ waiting₀ : List ℕ) 
       (λ m e x. on-beyond m (sound file m are e .0) config₀ waiting₀ bytes mv f config waiting x) o
 
   module _ (m : Machine) (read : readFile file ≡ machine m) where
-    on : (P : ℕ → ℕ → Type 0) (Q : Machine → Type 0) → onFile (readFile file) P Q → Q m
-    on P Q x = subst (λ (s : Scan). onFile s P Q) read x
-
     valid : Valid m
     valid = sound file m are read .0
 
     module _ (o : StartBytesOutcome file config₀ waiting₀ (fields 0 0 0 0) config waiting) where
       done : Passes (startTestsIn m config₀ (length waiting₀ / 8)) × (config ≡ configBytes (fresh (m .initial)) ++ drop 10 config₀)
       done =
-          let x : StartOnMachine m config₀ (length waiting₀ / 8) (fields 0 0 0 0) config = on _ _ (o .0) in
+          let x : StartOnMachine m config₀ (length waiting₀ / 8) (fields 0 0 0 0) config = at-machine (readFile file) m read _ _ .0 (o .0) in
           let a = answered-done (omega arith) (λ h k. omega arith) x in
           (a .0, a .1 .1)
 
@@ -169,7 +165,7 @@ module _ (file : List ℕ) (are : Bytes file) (config₀ waiting₀ : List ℕ) 
 
     module _ (mv : Move) (f : Fields) (lent : Lent config₀ waiting₀) (o : PlayBytesOutcome file config₀ waiting₀ mv f config waiting) where
       pub play-lent : Lent config waiting
-      play-lent = on-lent m valid config₀ waiting₀ bytes mv f config waiting lent (on _ _ o)
+      play-lent = on-lent m valid config₀ waiting₀ bytes mv f config waiting lent (at-machine (readFile file) m read _ _ .0 o)
 
       pub play-values : PlayOutcome m (configIn config₀) (recordsIn waiting₀) mv f (configIn config) (recordsIn waiting)
-      play-values = on-values m valid config₀ waiting₀ bytes mv f config waiting lent (on _ _ o)
+      play-values = on-values m valid config₀ waiting₀ bytes mv f config waiting lent (at-machine (readFile file) m read _ _ .0 o)
