@@ -2,14 +2,14 @@
 use mathlib.Core.Path.{_≡_, refl, sym, ap, _∙_, subst}
 use mathlib.Core.Logic.{inl, inr}
 use mathlib.Core.List.{List, [], _∷_, _++_, map}
-use Prim.Native.Nat.{ℕ, _/_, _≤_, _<_, min}
+use Prim.Native.Nat.{ℕ, _/_, _≤_, _<_}
 use native.Mathlib.Omega.{arith}
 use lib.ListN.{length, take, drop}
 use lib.Seq.{take-take, length-take-le}
 use Rattle.model.specs.Answers.{Fields, fields}
 use Rattle.model.specs.Lists.{All, all-nil, all-cons, Sorted}
 use Rattle.model.specs.Table.{Machine, Valid}
-use Rattle.table.specs.Tests.{Test, unless, Passes, Fails, Answered, refuses, answers, afterTable}
+use Rattle.table.specs.Tests.{Test, unless, Passes, Fails, refuses, answers, afterTable}
 use Rattle.table.proofs.TestLaws.{Numbered, fails-numbered, fails-back, table-law, passes-append}
 use Rattle.records.specs.declared.Pending.{Pending}
 use Rattle.player.specs.declared.Config.{Config}
@@ -18,7 +18,7 @@ use Rattle.player.specs.declared.Move.the-variants.{Time, Input, Output}
 use Rattle.player.specs.Moves.{Whole, Sane, waitingIn, moveTests, MoveDone, PlayOutcome, StartOutcome, startTests}
 use Rattle.player_bytes.specs.Records.{configIn, configBytes, recordsTo, lentIn, recordsIn, recordsBytes}
 use Rattle.player_bytes.proofs.HeldLaws.{take-to, length-to}
-use Rattle.player_bytes.specs.Plays.{startTestsIn, StartOnMachine, playTestsIn, ShortOutcome, PlayedIn, PlayOnMachine}
+use Rattle.player_bytes.specs.Plays.{startTestsIn, StartOnMachine, playTestsIn, ShortOutcome, PlayOnMachine}
 
 -- what a move on values tests after the table
 abbrev moveAll : Machine → Config → List Pending → Move → List Test
