@@ -20,7 +20,7 @@ use Rattle.table_file.specs.declared.Written.the-variants.{Bytes}
 use Rattle.table.specs.Refusal.{checkedFields}
 use Rattle.table.specs.Rows.{numbers, said, rows, rowAt, flat, cellsOf, machineOf, tableOf}
 use Rattle.table.specs.Tests.{Test, unless, answers, afterTable, CheckOutcome}
-use Rattle.table_file.specs.Write.{writtenFields, writeTests, putTests, Writes, WritesAfter, WriteOutcome, PutOutcome}
+use Rattle.table_file.specs.Write.{writtenFields, Writes, WriteOutcome}
 use Rattle.table_file.specs.File.{fileOf, ValidFile, Scan, machine, stopped, readFile, given, heldIn, ReadOutcome, FileOutcome, IntoOutcome}
 use Rattle.table.proofs.RefusalLaws.{checked-only}
 use Rattle.table_file.proofs.WrittenLaws.{written-only}
@@ -77,21 +77,13 @@ into-only s c₀ a b c d x y = (file-only s a b (x .tells) (y .tells), x .stores
 pub into-kept : (n p : ℕ) (c₀ : List ℕ) (a : FileRead) (c : List ℕ) → IntoOutcome (stopped n p) c₀ a c → c ≡ c₀
 into-kept n p c₀ a c x = x .stores ∙ sym (put-none c₀)
 
--- the writer's answer and the memory after it are fixed by the machine and the memory before, whatever it tests
-writes-only : (tests : List Test) (m : Machine) (out₀ : List ℕ) (a b : Written) (x y : List ℕ)
-    → WritesAfter tests m out₀ (writtenFields a) x → WritesAfter tests m out₀ (writtenFields b) y → (a ≡ b) × (x ≡ y)
-writes-only tests m out₀ a b x y =
+-- the writer's answer and the memory after it are fixed by the machine and the memory before
+pub write-only : (m : Machine) (out₀ : List ℕ) (a b : Written) (x y : List ℕ) → WriteOutcome m out₀ (writtenFields a) x → WriteOutcome m out₀ (writtenFields b) y
+    → (a ≡ b) × (x ≡ y)
+write-only m out₀ a b x y =
     answered-only
     (λ e k l. (written-only a b e, k ∙ sym l))
     (λ d e. (written-only a b (d .counts ∙ sym (e .counts)), d .is ∙ sym (e .is)))
-
-pub write-only : (m : Machine) (out₀ : List ℕ) (a b : Written) (x y : List ℕ) → WriteOutcome m out₀ (writtenFields a) x → WriteOutcome m out₀ (writtenFields b) y
-    → (a ≡ b) × (x ≡ y)
-write-only m out₀ = writes-only (writeTests m out₀) m out₀
-
-pub put-only : (m : Machine) (out₀ : List ℕ) (a b : Written) (x y : List ℕ) → PutOutcome m out₀ (writtenFields a) x → PutOutcome m out₀ (writtenFields b) y
-    → (a ≡ b) × (x ≡ y)
-put-only m out₀ = writes-only (putTests m out₀) m out₀
 
 -- "what a table value holds beyond its last transition is never looked at": two values of one machine get the same answers
 module _ (s t : Table) (same : machineOf s ≡ machineOf t) where

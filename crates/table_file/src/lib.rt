@@ -89,7 +89,7 @@ pub fn read_table(file: &[u8]) -> Reading
 }
 
 // The file of a table that nobody tested, of at most 256 transitions: its bytes, the places after them as they were. A refusal writes nothing.
-pub fn put_parts(states: u16, initial: u16, n: usize, cells: &Cells, out: &mut [u8]) -> Written
+fn put_parts(states: u16, initial: u16, n: usize, cells: &Cells, out: &mut [u8]) -> Written
     ensures { λ r. ⌜ PutOutcome (machineOf (tableIn states initial n (now (cells .entry)))) (now (out .entry)) (writtenFields r) (now (out .exit)) ⌝ }
 {
     if 256 < n {
