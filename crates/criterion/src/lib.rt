@@ -33,7 +33,7 @@ pub fn below(k: Row, m: Row, late: u32) -> bool
     true
 }
 
-// Whether the two responses can be told apart: what decides on a pair compares letters here alone.
+// Whether the two responses can be told apart. A letter that is kept without its row is compared where it is kept: `starts::kept`, and `verdict` where it rules steps out.
 pub fn differ(k: Row, m: Row) -> bool
     ensures { λ b. ⌜ Tells b (Differ (said k) (said m)) ⌝ }
 {
