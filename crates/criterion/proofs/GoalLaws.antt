@@ -1,7 +1,6 @@
 -- Whatever is asked, a search may go by the sums, and need not look at a pair that is not possible.
 use Prim.Native.Nat.{ℕ, _≤_}
 use Rattle.model.specs.Table.{Transition}
-use Rattle.model.specs.Criterion.{Above}
 use Rattle.model.proofs.CriterionLaws.{Sought, crosses-sought, ahead-sought, above-less}
 use Rattle.criterion.specs.declared.Goal.{Goal}
 use Rattle.criterion.specs.declared.Goal.the-variants.{Turns, Overtakes}

@@ -1,13 +1,11 @@
 -- The places of a byte buffer, once for every width w: what is read in one, and what a store in one leaves.
 use mathlib.Core.Path.{_≡_, refl, sym, ap, _∙_}
-use mathlib.Core.Logic.{dite}
 use mathlib.Core.List.{List, [], _∷_, _++_, append-assoc, append-nil}
-use native.Mathlib.Decide.{decLt}
 use Prim.Native.Nat.{ℕ, zero, suc, _+_, _*_, _-_, _/_, _^_, _≤_, _<_}
 use native.Mathlib.Nat.{mul-le-mul-right, div-mul-le-self, add-mul-div-right}
 use native.Mathlib.Numerals.{add-one}
 use native.Mathlib.Omega.{arith}
-use lib.ListN.{length, take, drop, getD, set, length-set, length-append, length-take, length-drop, take-append-drop}
+use lib.ListN.{length, take, drop, getD, length-append, length-take, length-drop, take-append-drop}
 use lib.Seq.{length-take-le, take-at, drop-at, drop-drop, drop-length, set-split}
 use Rattle.wire.specs.Bytes.{le, digits, bytes, placed, Bytes, les, wholes}
 use Rattle.wire.proofs.Bytes.{length-digits, length-bytes, bytes-append, le-take, le-drop, le-part, le-digits, les-front, length-les, placed-fits}

@@ -1,6 +1,6 @@
 -- Letters (02, R-3): one letter throughout turns nothing, and a steady trace issues its letters in one sequence.
 use mathlib.Core.Path.{_≡_, refl, sym, ap, _∙_}
-use mathlib.Core.Logic.{_↔_, ⊎-elim, inl, inr, dite}
+use mathlib.Core.Logic.{_↔_, inl, inr, dite}
 use mathlib.Core.List.{List, [], _∷_, map, map-map}
 use Prim.Native.Nat.{ℕ, zero, suc, _+_, _<_}
 use native.Mathlib.Omega.{arith}
@@ -9,7 +9,7 @@ use lib.ListN.{length}
 use Rattle.model.specs.Lists.{All, In, Sorted, total}
 use Rattle.model.specs.Table.{Transition, Machine, none, at}
 use Rattle.model.specs.Word.{Word, Activates}
-use Rattle.model.specs.Order.{due, Before, Differ, Response, response, Conversion, Opposed}
+use Rattle.model.specs.Order.{due, Response, response, Conversion, Opposed}
 use Rattle.model.specs.Verdict.{Turning, TableTurns}
 use Rattle.model.proofs.Lists.{all-at}
 use Rattle.model.proofs.Sorting.{Linear, place, put, listing, listing-in, listing-sorted}

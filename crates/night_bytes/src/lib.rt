@@ -4,7 +4,6 @@ use table::Cells;
 use table::Checked;
 use table::Refusal;
 use table_file::FileRead;
-ghost use mathlib.Core.Path.{_≡_};
 ghost use Prim.Native.Nat.{_*_, _/_, _≤_};
 ghost use lib.ListN.{length};
 ghost use Rattle.model.specs.Table.{Valid};

@@ -15,7 +15,7 @@ use Rattle.model.specs.Lists.All.{all-nil, all-cons}
 use Rattle.model.specs.Table.{Transition, Machine, InRange, Valid, at, none}
 use Rattle.model.proofs.Lists.{in-place}
 use Rattle.wire.specs.Bytes.{le, bytes, Bytes, les}
-use Rattle.wire.proofs.Bytes.{le-take, le-part, Held, les-front, les-bytes, bytes-drop, bytes-bytes, bytes-append, length-bytes}
+use Rattle.wire.proofs.Bytes.{le-take, le-part, Held, les-front, les-bytes, bytes-drop, bytes-append, length-bytes}
 use Rattle.table.specs.declared.Refusal.{Refusal}
 use Rattle.table.specs.declared.Row.{Row}
 use Rattle.table_file.specs.declared.Frame.{Frame}

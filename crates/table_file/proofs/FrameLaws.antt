@@ -10,7 +10,6 @@ use borrow.Author.Tests.{lt-ltb, le-ltb, le-leb, lt-leb, eq-eqb, ne-eqb}
 use lib.Dec.{eqb}
 use lib.ListN.{length, take, drop, length-drop}
 use lib.Seq.{drop-drop}
-use Rattle.model.specs.Table.{Transition}
 use Rattle.wire.specs.Bytes.{le}
 use Rattle.wire.proofs.Bytes.{le-drop, le-halves}
 use Rattle.table.specs.declared.Refusal.{Refusal}

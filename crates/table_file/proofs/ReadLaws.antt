@@ -14,7 +14,6 @@ use Rattle.model.specs.Table.{Transition}
 use Rattle.table.specs.declared.Refusal.{Refusal}
 use Rattle.table.specs.declared.Refusal.the-variants.{Misplaced, Full, OutOfRange, Repeated}
 use Rattle.table.specs.declared.Row.{Row}
-use Rattle.table.specs.declared.Checked.{Checked}
 use Rattle.table.specs.declared.Checked.the-variants.{Sound, Refused}
 use Rattle.table_file.specs.declared.Frame.the-variants.{Bad, Took, Last}
 use Rattle.table_file.specs.declared.Opening.the-variants.{Opened, Shut}

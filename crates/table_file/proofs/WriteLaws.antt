@@ -6,7 +6,7 @@ use native.Mathlib.Omega.{arith}
 use lib.ListN.{length, drop, length-append}
 use mathlib.Core.Logic.{inl, inr}
 use Rattle.model.specs.Answers.{Fields}
-use Rattle.model.specs.Table.{Transition, Machine, Valid}
+use Rattle.model.specs.Table.{Transition, Machine}
 use Rattle.table.specs.declared.Refusal.{Refusal}
 use Rattle.table.specs.declared.Refusal.the-variants.{Full, NoRoom}
 use Rattle.table.specs.declared.Checked.{Checked}

@@ -8,7 +8,7 @@ use lib.ListN.{length, take, drop}
 use Rattle.model.specs.Answers.{Fields, fields}
 use Rattle.model.specs.Table.{Transition, Machine, Valid}
 use Rattle.wire.specs.Bytes.{le, bytes}
-use Rattle.table.specs.declared.Refusal.the-variants.{Cut, Misplaced, Full, OutOfRange, Repeated}
+use Rattle.table.specs.declared.Refusal.the-variants.{Cut, Misplaced, OutOfRange, Repeated}
 use Rattle.table.specs.declared.Row.{Row}
 use Rattle.table.specs.declared.Table.{Table}
 use Rattle.table.specs.declared.Checked.the-variants.{Sound, Refused}
@@ -21,7 +21,7 @@ use Rattle.table_file.specs.declared.Counted.the-variants.{Count, Stop}
 use Rattle.table.specs.declared.Checked.{Checked}
 use Rattle.table_file.specs.declared.FileRead.{FileRead}
 use Rattle.table.specs.Refusal.{refusalNumber, refusalPlace, checkedFields}
-use Rattle.table.specs.Rows.{numbers, said, listed, flat, putAll, tableIn, tableOf}
+use Rattle.table.specs.Rows.{numbers, said, flat, putAll, tableIn, tableOf}
 use Rattle.table.specs.Check.{headFine, inRange, has}
 
 -- "two bytes of length (counting all after them), two bytes of kind, then the body": head, transition, end

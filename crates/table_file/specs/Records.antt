@@ -17,7 +17,7 @@ use Rattle.table.specs.Refusal.{refusalNumber, refusalPlace}
 use Rattle.table.specs.Rows.{said, listed}
 use Rattle.table.specs.Check.{has}
 use Rattle.table.specs.Seen.{Marked}
-use Rattle.table_file.specs.File.{bodyIn, rowIn, admission, Listed, found, refused, rowsFrom, readFile, machine, stopped, bare, FileOutcome}
+use Rattle.table_file.specs.File.{bodyIn, rowIn, admission, found, refused, rowsFrom, readFile, machine, FileOutcome}
 
 -- the transition in record i, and those in the first n
 abbrev pub recordAt : List ℕ → ℕ → Row

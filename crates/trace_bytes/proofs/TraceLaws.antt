@@ -28,7 +28,7 @@ use Rattle.verdict.specs.declared.OnTrace.{OnTrace}
 use Rattle.verdict.specs.declared.OnTrace.the-variants.{Steady, Turning, Refused}
 use Rattle.verdict.specs.OnTrace.{traceFields, pairTests, TurnsAt, TraceSays, says-steady, says-turning, PairOutcome}
 use Rattle.verdict.proofs.OnTrace.{the-type}
-use Rattle.verdict.proofs.JudgeLaws.{Known, ready}
+use Rattle.verdict.proofs.JudgeLaws.{ready}
 use Rattle.places.specs.Places.{pathIn, fitted, handedOn, Decoded}
 use Rattle.places.proofs.PlaceLaws.{decoded-take, handed-whole, trace-whole, whole-trace, trace-count}
 use Rattle.trace_bytes.specs.Traces.{bytesTests, TraceOnMachine}

@@ -1,17 +1,7 @@
 use borrow.Author.Needs.{needs}
-use native.Mathlib.Omega.{arith}
-use native.Mathlib.Numerals.{add-one}
-use mathlib.Core.Path.{_≡_, refl, sym, ap, _∙_}
-use mathlib.Core.Bool.{Bool, true, false}
-use mathlib.Core.List.{List, [], _∷_, _++_}
-use Prim.Native.Nat.{ℕ, _+_, _*_, _≤_, _<_, _-_}
-use lib.ListN.{length, take, drop, getD, set}
+use Prim.Native.Nat.{_-_}
 use Rattle.sandgusset.proofs.answers.played.Statement.{statement}
 use Rattle.sandgusset.proofs.answers.played.Tie as tie
-use Rattle.sandgusset.proofs.answers.played.Reads as reads
-use Rattle.sandgusset.proofs.answers.played.Lts as lts
-use Rattle.sandgusset.proofs.answers.pack.Reads as pack-reads
-use Rattle.sandgusset.proofs.answers.refused.Reads as refused-reads
 
 enum-known-a : tie.Need-enum-known-a
 enum-known-a c = search needs

@@ -1,7 +1,7 @@
 -- What is not named follows from the arithmetic around it.
 use borrow.Author.Needs.{needs}
 use native.Mathlib.Omega.{arith}
-use mathlib.Core.Path.{_≡_, refl}
+use mathlib.Core.Path.{_≡_}
 use Prim.Native.Nat.{_-_}
 use lib.ListN.{length}
 use Rattle.verdict.proofs.TimeLaws.{Filling, next-small, filling-more}
