@@ -46,7 +46,7 @@ fn reach(lows: &[u32; 64], i: usize, time: u32) -> usize
     64
 }
 
-// Beyond block i its steps look only if one there is what they ask for together.
+// Beyond block i its steps look only if one there is what they ask for together, and within it only if one of it is.
 fn look_ahead(
     early: &Numbers,
     late: &Numbers,
@@ -64,9 +64,15 @@ fn look_ahead(
     if any_between(early, late, all, near, far) {
         return Sight { block: i, far };
     }
+    if any_between(early, late, all, 8 * i, near) {
+        return Sight {
+            block: i,
+            far: near,
+        };
+    }
     Sight {
         block: i,
-        far: near,
+        far: 8 * i,
     }
 }
 
