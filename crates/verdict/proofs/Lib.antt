@@ -4,3 +4,4 @@ pub mod CalmLaws
 pub mod MarkLaws
 pub mod TimeLaws
 pub mod SightLaws
+pub mod QuietLaws

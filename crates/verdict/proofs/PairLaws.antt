@@ -32,7 +32,7 @@ sofar f tr k m = total f (take (m - suc k) (drop (suc k) tr))
 pub sum-more : (f : Transition → ℕ) (l : List Transition) (p : ℕ) → p < length l → total f (take (suc p) l) ≡ total f (take p l) + f (at l p)
 sum-more f l p h = rw (take-suc l p none h) (omega (arith, total-append f (take p l) (at l p ∷ [])))
 
-sum-next : (f : Transition → ℕ) (tr : List Transition) (k m : ℕ) → k < m → m < length tr → sofar f tr k m + f (at tr m) ≡ total f (between k m tr)
+pub sum-next : (f : Transition → ℕ) (tr : List Transition) (k m : ℕ) → k < m → m < length tr → sofar f tr k m + f (at tr m) ≡ total f (between k m tr)
 sum-next f tr k m h i =
     let p : ℕ = m - suc k in
     let l : List Transition = drop (suc k) tr in

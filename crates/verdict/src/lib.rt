@@ -11,6 +11,7 @@ ghost use Rattle.verdict.specs.OnTrace.{traceFields, TraceOutcome, PairO
 mod calm;
 mod marks;
 mod pairs;
+mod quiet;
 mod sight;
 mod times;
 

@@ -1,5 +1,6 @@
 // The least pair of steps that turns.
 use crate::calm;
+use crate::quiet;
 use crate::sight;
 use crate::sight::Sight;
 use crate::times;
@@ -102,8 +103,8 @@ fn pair_from(
     pair_by_numbers(cells, trace, early, &late, lows, calm, from)
 }
 
-// The least pair that turns. The first step that is not calm is looked at by itself: most traces are decided there.
-pub(crate) fn least_pair(cells: &Cells, trace: &[u16]) -> Pair
+// The least pair of a trace. The first step that is not calm is looked at by itself: most traces that are not quiet are decided there.
+fn pair_looked(cells: &Cells, trace: &[u16]) -> Pair
     requires { ⌜ Bounded (now cells) (now trace) ⌝ }
     ensures { λ r. ⌜ PairOf (named (now (cells .entry)) (now (trace .entry))) r ⌝ }
 {
@@ -119,4 +120,15 @@ pub(crate) fn least_pair(cells: &Cells, trace: &[u16]) -> Pair
         return Pair::At(first, m);
     }
     pair_from(cells, trace, &early, &lows, &calm, first + 1)
+}
+
+// The least pair that turns.
+pub(crate) fn least_pair(cells: &Cells, trace: &[u16]) -> Pair
+    requires { ⌜ Bounded (now cells) (now trace) ⌝ }
+    ensures { λ r. ⌜ PairOf (named (now (cells .entry)) (now (trace .entry))) r ⌝ }
+{
+    if quiet::all_quiet(cells, trace) {
+        return Pair::Nowhere;
+    }
+    pair_looked(cells, trace)
 }
