@@ -1,1 +1,2 @@
+pub mod ApartLaws
 pub mod SplitLaws

@@ -1,7 +1,7 @@
 -- The first split pair.
 use mathlib.Core.Path.{_≡_}
 use mathlib.Core.List.{List}
-use Prim.Native.Nat.{ℕ, _≤_, _<_}
+use Prim.Native.Nat.{ℕ, _+_, _*_, _%_, _≤_, _<_}
 use lib.ListN.{length}
 use Rattle.model.specs.Lists.{LeastPair}
 use Rattle.model.specs.Table.{Transition, Machine, at}
@@ -16,6 +16,15 @@ pub record Forks (s t : Transition) : Type 0 where
   pub together : t .from ≡ s .from
   pub alike : t .input ≡ s .input
   pub overlap : Overlap s t
+
+-- one of 256 places for a transition, by the state that it leaves and its input: two that fork have one place
+abbrev pub forkPlace : Transition → ℕ
+forkPlace t = t .from % 32 * 8 + t .input % 8
+
+-- of "0 to 256 transitions" no two have one place
+pub record Apart (cells : List ℕ) (count : ℕ) : Type 0 where
+  pub few : count ≤ 256
+  pub apart : (i j : ℕ) → i < j → j < count → forkPlace (at (rows cells count) i) ≡ forkPlace (at (rows cells count) j) → ⊥
 
 -- a split pair, by the marks
 pub record MarkedPair (ts : List Transition) (dist : List ℕ) (i j : ℕ) : Type 0 where

@@ -8,7 +8,7 @@ ghost use mathlib.Core.Path.{_≡_};
 ghost use Prim.Native.Nat.{_≤_, _<_, max};
 ghost use Rattle.model.specs.Answers.{Tells};
 ghost use Rattle.table.specs.Rows.{rows, said};
-ghost use Rattle.split_pair.specs.Split.{Forks, Partner, SplitOutcome};
+ghost use Rattle.split_pair.specs.Split.{forkPlace, Forks, Apart, Partner, SplitOutcome};
 
 // The numbers of two transitions, the lower one first.
 pub enum Pair {
@@ -43,6 +43,33 @@ fn forks(r: Row, s: Row) -> bool
     true
 }
 
+// The place of a transition.
+fn place(t: Row) -> usize
+    ensures { λ k. ⌜ k ≡ forkPlace (said t) ⌝ }
+{
+    (t.from % 32 * 8 + t.input % 8) as usize
+}
+
+// Whether each of at most 256 transitions has a place of its own: then no two fork. So it is in most tables, and one look at each tells.
+pub fn apart(cells: &Cells, count: usize) -> bool
+    ensures { λ b. ⌜ Tells b (Apart (now (cells .entry)) count) ⌝ }
+{
+    if 256 < count {
+        return false;
+    }
+    let mut taken = [false; 256];
+    let mut i: usize = 0;
+    while i < count {
+        let k = place(row_of(cells, i));
+        if taken[k] {
+            return false;
+        }
+        taken[k] = true;
+        i += 1;
+    }
+    true
+}
+
 // The least second transition of a split pair with i, or count where there is none.
 fn partner(cells: &Cells, count: usize, dist: &Marks, i: usize) -> usize
     requires { ⌜ (count ≤ 256) × (i < count) ⌝ }
@@ -67,6 +94,9 @@ pub fn first_split(cells: &Cells, count: usize, dist: &Marks) -> Pair
     ensures { λ r. ⌜ SplitOutcome (now (cells .entry)) count (now (dist .entry)) r ⌝ }
 {
     if 256 < count {
+        return Pair::Nothing;
+    }
+    if apart(cells, count) {
         return Pair::Nothing;
     }
     let mut i: usize = 0;

@@ -6,6 +6,8 @@ use Prim.Native.Nat.{_≤_, _-_}
 use lib.ListN.{length}
 use Rattle.table.specs.Rows.{rows}
 use Rattle.table.proofs.RowLaws.{length-rows}
+use Rattle.model.proofs.AnswerLaws.{told}
+use Rattle.split_pair.proofs.ApartLaws.{apart-unmarked}
 use Rattle.split_pair.proofs.SplitLaws.{Clear, Searched, searched, none-clear}
 use Rattle.split_pair.proofs.first_split.Statement.{statement}
 use Rattle.split_pair.proofs.first_split.Tie as tie
@@ -27,13 +29,16 @@ partner-requires c κs = search needs
 
 -- both ways on from the search at i
 after-partner : (p : tie.After-partner Inv-loop μ-loop)
-    → let a = p .before .before .before .before .args in Searched (a .cells .now) (a .count) (a .dist .now) (p .before .before .loop .i) (p .partner .result)
+    → let a = p .before .before .before .before .before .before .args in Searched (a .cells .now) (a .count) (a .dist .now) (p .before .before .loop .i) (p .partner .result)
 after-partner p =
-    let a = p .before .before .before .before .args in
+    let a = p .before .before .before .before .before .before .args in
     searched (a .cells .now) (a .count) (a .dist .now) (p .before .before .loop .i) (p .partner .result) (p .before .before .loop .inv .1) (p .partner .ensures)
 
 returns-2 : tie.Need-returns-2 Inv-loop μ-loop
-returns-2 c = (omega arith, after-partner (c .before) .0 (omega arith))
+returns-2 c = λ few. apart-unmarked (told _ (c .before .apart .ensures) (c .if2 .taken)) _
+
+returns-3 : tie.Need-returns-3 Inv-loop μ-loop
+returns-3 c = (omega arith, after-partner (c .before) .0 (omega arith))
 
 add-i : tie.Need-add-i Inv-loop μ-loop
 add-i c = search needs
@@ -44,9 +49,9 @@ loop-less c = search needs
 loop-again : tie.Need-loop-again Inv-loop μ-loop
 loop-again c = (omega arith, after-partner (c .before) .1 (omega arith))
 
-returns-3 : tie.Need-returns-3 Inv-loop μ-loop
-returns-3 c =
-    let a = c .before .before .before .args in
+returns-4 : tie.Need-returns-4 Inv-loop μ-loop
+returns-4 c =
+    let a = c .before .before .before .before .before .args in
     let l = c .before .loop in
     let n = length-rows (a .cells .now) (a .count) in
     let e : l .i ≡ length (rows (a .cells .now) (a .count)) = omega arith in
@@ -59,10 +64,12 @@ first-split-spec =
     Inv-loop
     μ-loop
     returns
+    (λ c κs. search needs)
+    returns-2
     loop-holds
     partner-requires
-    returns-2
+    returns-3
     add-i
     loop-less
     loop-again
-    returns-3)
+    returns-4)
