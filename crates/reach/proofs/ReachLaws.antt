@@ -7,15 +7,24 @@ use borrow.Author.Tests.{lt-ltb, le-ltb}
 use lib.ListN.{length, getD, set, take, drop, length-append, take-append-drop}
 use lib.Seq.{take-suc, set-at, length-take-le}
 use Rattle.model.specs.Lists.{All, all-nil, all-cons}
-use Rattle.model.specs.Table.{Transition, at}
+use Rattle.model.specs.Table.{Transition, Valid, at}
 use Rattle.model.specs.Trace.{Trace}
 use Rattle.model.proofs.Lists.{all-append, all-map, all-at}
 use Rattle.model.proofs.Paths.{trace-append}
-use Rattle.table.specs.Rows.{rows, rowOf, said}
+use Rattle.table.specs.declared.Table.{Table}
+use Rattle.table.specs.Rows.{rows, rowOf, said, machineOf}
 use Rattle.table.specs.Fit.{Sound}
+use Rattle.table.specs.Tests.{Test, Passes}
 use Rattle.table.proofs.RowLaws.{length-rows}
-use Rattle.table.proofs.FitLaws.{row-said}
-use Rattle.reach.specs.Reach.{mark, wayIn, LeadsIn, Linked, Met, Breadth, Reach, wayBack, wayTo, wayWithin, WayStands}
+use Rattle.table.proofs.FitLaws.{row-said, valid-sound}
+use Rattle.table.proofs.TestLaws.{valid-count}
+use Rattle.reach.specs.Reach.{mark, wayIn, LeadsIn, Linked, Met, Breadth, Reach, afterLimits, wayBack, wayTo, wayWithin, WayStands}
+
+-- a valid table passes the tests of a search, so that the other tests decide
+pub valid-limits : (t : Table) → Valid (machineOf t) → (more : List Test) → Passes more → Passes (afterLimits (t .cells) (t .count) (t .initial) more)
+valid-limits t v more p =
+    let few = valid-count t v in
+    (few, (record { sound = valid-sound t few v; inside = omega (arith, v .starts, v .most) }, p))
 
 -- what the marks tell of traces
 module _ (ts : List Transition) (dist : List ℕ) (breadth : Breadth ts dist) where

@@ -10,6 +10,7 @@ use Rattle.model.specs.Table.{Transition, at}
 use Rattle.model.specs.Trace.{Reached}
 use Rattle.table.specs.Rows.{rows, rowOf, said}
 use Rattle.table.specs.Fit.{Sound}
+use Rattle.table.specs.Tests.{Test, unless}
 
 -- a state's mark: 0 if it was not reached, else one more than its distance
 abbrev pub mark : List ℕ → ℕ → ℕ
@@ -62,6 +63,11 @@ pub record Reach (ts : List Transition) (initial : ℕ) (dist via : List ℕ) : 
 pub record Admits (cells : List ℕ) (count initial : ℕ) : Type 0 where
   pub sound : Sound cells count
   pub inside : initial < 32
+
+-- the tests of a search through cells that nobody tested, before others: 3, then 4 for as many states as a table can have. Equal transitions are
+-- not looked for: they do no harm to a search.
+abbrev pub afterLimits : List ℕ → ℕ → ℕ → List Test → List Test
+afterLimits cells count initial more = unless 3 (count ≤ 256) ∷ unless 4 (Admits cells count initial) ∷ more
 
 -- true: the marks and the ways in, whatever stood there; false: nothing is written
 abbrev pub ReachOutcome : List ℕ → ℕ → ℕ → List ℕ → List ℕ → Bool → List ℕ → List ℕ → Type 0

@@ -10,12 +10,12 @@ use lib.Seq.{getD-append-seam}
 use Rattle.model.specs.Answers.{fields}
 use Rattle.model.specs.Lists.{LeastPair}
 use Rattle.model.specs.Table.{Transition, Machine, Valid, at}
-use Rattle.model.specs.Verdict.{Splits, SplitPair}
+use Rattle.model.specs.Verdict.{Splits, SplitPair, Strict}
 use Rattle.model.proofs.Paths.{trace-ranged}
 use Rattle.model.proofs.Pair.{turns-law}
 use Rattle.model.proofs.Words.{words-show}
 use Rattle.model.proofs.Split.{pair-shown, shown-splits, split-law}
-use Rattle.model.proofs.Turn.{turns-from-law, table-walk-law}
+use Rattle.model.proofs.Turn.{turns-from-law, table-walk-law, turns-overtakes}
 use Rattle.table.specs.declared.Table.{Table}
 use Rattle.table.specs.declared.Refusal.{Refusal}
 use Rattle.table.specs.declared.Refusal.the-variants.{NoRoom}
@@ -24,14 +24,17 @@ use Rattle.table.specs.declared.Checked.the-variants as checked
 use Rattle.table.specs.Refusal.{checkedFields}
 use Rattle.table.specs.Rows.{rows, machineOf}
 use Rattle.table.specs.Fit.{Sound}
-use Rattle.table.specs.Tests.{Test, unless, refuses, answers, CheckOutcome}
+use Rattle.table.specs.Tests.{Test, unless, refuses, answers}
 use Rattle.table.specs.Showing.{says-none, says-shown}
 use Rattle.table.proofs.RowLaws.{length-rows}
-use Rattle.table.proofs.TestLaws.{refused-fails, valid-passes, valid-fails}
+use Rattle.table.proofs.TestLaws.{passes-fails, valid-passes}
 use Rattle.reach.specs.Reach.{Reach}
 use Rattle.split_pair.specs.declared.Pair.the-variants as Pair
 use Rattle.split_pair.specs.Split.{SplitOutcome}
-use Rattle.reach.proofs.ReachLaws.{way-path, way-few}
+use Rattle.reach.proofs.ReachLaws.{valid-limits, way-path, way-few}
+use Rattle.split_pair.proofs.SplitLaws.{split-found}
+use Rattle.split_pair.proofs.ApartLaws.{apart-unsplit}
+use Rattle.neighbours.proofs.NeighbourLaws.{calm-keeps}
 use Rattle.criterion.specs.declared.Goal.the-variants.{Turns}
 use Rattle.witness.specs.declared.Witness.{Witness}
 use Rattle.witness.specs.declared.Witness.the-variants.{Shown}
@@ -40,8 +43,9 @@ use Rattle.witness.proofs.WitnessLaws.{words-nothing, words-stand, shows-lowest
 use Rattle.table_verdict.specs.declared.OnTable.{OnTable}
 use Rattle.table_verdict.specs.declared.OnTable.the-variants.{Strict as StrictTable, Turning, Refused}
 use Rattle.table_verdict.specs.OnTable.{tableFields, split-shown, turning-shown, TableOutcome}
+use Rattle.table_verdict.specs.Plain.{Plain}
 use Rattle.table_verdict.specs.Shown.{ShowRoom, SplitStands}
-use Rattle.table_verdict.specs.Decided.{Decided, Decision, TurnJudged, turns-not, turns-from}
+use Rattle.table_verdict.specs.Decided.{Decided, TurnJudged, turns-not, turns-from, marks-split, marks-turn, cellTests, CellsOutcome}
 
 -- K and M counted from 1, M being the last step
 turning-fields : (k : ℕ) {all last : ℕ} → all ≡ suc last → tableFields (Turning (k + 1) all) ≡ fields 257 (suc k) (suc last) (suc last)
@@ -101,3 +105,31 @@ module _ {c : List ℕ} {n : ℕ} (sound : Sound c n) {initial : ℕ} {dist via 
             lowest = shows-lowest Turns m (turns-from-law m v) (turns-law good k (s .last)) p;
             shows = words-show good k (s .last) (p .meets);
           })) (s .traced, x .stamped)
+
+-- what the search through the cells of a valid table answered, with room
+module _ (t : Table) (v : Valid (machineOf t)) (trace₀ stamps₀ : List ℕ) (room : (270 ≤ length trace₀) × (540 ≤ length stamps₀)) where
+  abbrev rest : List Test
+  rest = unless 8 ((270 ≤ length trace₀) × (540 ≤ length stamps₀)) ∷ []
+
+  cells-decided : {r : OnTable} {trace stamps : List ℕ} → CellsOutcome (t .cells) (t .count) (t .initial) trace₀ stamps₀ r trace stamps
+      → Decided (machineOf t) trace₀ stamps₀ r trace stamps
+  cells-decided (refuses {n = n} {p = p} e x k) =
+      absurd (passes-fails (cellTests (t .cells) (t .count) (t .initial) trace₀ stamps₀) n p (valid-limits t v rest (room, tt)) x)
+  cells-decided (answers p (marks-split reach o s)) =
+      split-decided (p .1 .0 .sound) reach (t .states) v trace₀ stamps₀ (split-found _ _ _ (Pair.At _ _) o (p .0) (t .states) (t .initial) (reach .tells)) s
+  cells-decided (answers p (marks-turn reach o j)) =
+      turn-decided (p .1 .0 .sound) reach (t .states) v trace₀ stamps₀
+      (split-found _ _ _ Pair.Nothing o (p .0) (t .states) (t .initial) (reach .tells)) (room .0) (room .1) j
+
+  pub cells-judge : {r : OnTable} {trace stamps : List ℕ} → CellsOutcome (t .cells) (t .count) (t .initial) trace₀ stamps₀ r trace stamps
+      → TableOutcome (machineOf t) trace₀ stamps₀ (tableFields r) trace stamps
+  cells-judge o = answers (valid-passes (machineOf t) v rest (room, tt)) (cells-decided o)
+
+-- one look told that a valid table is strict, wherever it begins
+pub plain-strict : {c : List ℕ} {n : ℕ} → Plain c n → (states initial : ℕ) → Valid (machineWith states initial (rows c n)) → Strict (machineWith states initial (rows c n))
+plain-strict {c} {n} p states initial v =
+    let m = machineWith states initial (rows c n) in
+    record {
+      unsplit = λ x. let q = split-law m v .0 x in apart-unsplit (p .apart) states initial (q .0) (q .1) (q .2);
+      steady = λ x. calm-keeps (p .calm) states initial v (turns-overtakes m v x);
+    }

@@ -1,4 +1,5 @@
 pub mod OnTable
 pub mod Agree
 pub mod Shown
+pub mod Plain
 pub mod Decided

@@ -3,13 +3,13 @@ use table::Cells;
 use table::Refusal;
 use table_file::FileRead;
 use table_verdict::OnTable;
-ghost use mathlib.Core.Path.{_≡_};
 ghost use Prim.Native.Nat.{_≤_};
-ghost use lib.ListN.{length};
 ghost use Rattle.model.specs.Table.{Valid};
 ghost use Rattle.table.specs.Rows.{machineOf};
+ghost use Rattle.table.specs.Tests.{Passes};
 ghost use Rattle.table_file.specs.File.{heldIn};
 ghost use Rattle.table_verdict.specs.OnTable.{tableFields};
+ghost use Rattle.places.specs.ShownBytes.{roomTests};
 ghost use Rattle.verdict_bytes.specs.Tables.{TableOnMachine, Used};
 
 // How many trace places and stamp places a verdict uses.
@@ -42,17 +42,30 @@ fn used(v: OnTable) -> Places
     }
 }
 
-// Tests the room, makes the call on values, and writes the used places back.
+// Makes the call on values, and writes the used places back. The places are cleared here: a table that is strict at sight doesn't pay for them.
+fn show_on(read: FileRead, cells: &Cells, trace: &mut [u8], stamps: &mut [u8]) -> OnTable
+    requires { ⌜ Valid (machineOf (heldIn read (now cells))) ⌝ }
+    requires { ⌜ Passes (roomTests 270 540 (now trace) (now stamps)) ⌝ }
+    ensures { λ r. ⌜ TableOnMachine (machineOf (heldIn read (now (cells .entry)))) (now (trace .entry)) (now (stamps .entry))
+        (tableFields r) (now (trace .exit)) (now (stamps .exit)) ⌝ }
+{
+    let mut steps = [0u16; 270];
+    let mut marks = [0u32; 540];
+    let r = table_verdict::judge_cells(cells, read.count, read.initial, &mut steps, &mut marks);
+    let u = used(r);
+    places::put_back_twos(trace, &steps, u.steps);
+    places::put_back_fours(stamps, &marks, u.stamps);
+    r
+}
+
+// Tests the room; then one look at each transition mostly tells that the table is strict, and else the search decides.
 pub(crate) fn judge_on(
     read: FileRead,
     cells: &Cells,
     trace: &mut [u8],
     stamps: &mut [u8],
-    steps: &mut [u16],
-    marks: &mut [u32],
 ) -> OnTable
     requires { ⌜ Valid (machineOf (heldIn read (now cells))) ⌝ }
-    requires { ⌜ (length (now steps) ≡ 270) × (length (now marks) ≡ 540) ⌝ }
     ensures { λ r. ⌜ TableOnMachine (machineOf (heldIn read (now (cells .entry)))) (now (trace .entry)) (now (stamps .entry))
         (tableFields r) (now (trace .exit)) (now (stamps .exit)) ⌝ }
 {
@@ -62,9 +75,8 @@ pub(crate) fn judge_on(
     if stamps.len() / 4 < 540 {
         return OnTable::Refused(Refusal::NoRoom);
     }
-    let r = table_verdict::judge_parts(read.states, read.initial, read.count, cells, steps, marks);
-    let u = used(r);
-    places::put_back_twos(trace, steps, u.steps);
-    places::put_back_fours(stamps, marks, u.stamps);
-    r
+    if table_verdict::plain(cells, read.count) {
+        return OnTable::Strict;
+    }
+    show_on(read, cells, trace, stamps)
 }
