@@ -17,7 +17,5 @@ pub fn order_table_bytes(file: &[u8], trace: &mut [u8], stamps: &mut [u8]) -> On
     if let Checked::Refused(r) = answer {
         return OnOrder::Refused(r);
     }
-    let mut steps = [0u16; 270];
-    let mut marks = [0u32; 270];
-    orders::order_on(read, &cells, trace, stamps, &mut steps, &mut marks)
+    orders::order_on(read, &cells, trace, stamps)
 }

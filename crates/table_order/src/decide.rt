@@ -1,17 +1,13 @@
-// The decision on a sound table: overtaken, else in order. Whether the table splits plays no part.
+// What the search for an overtaken transition answers. Whether the table splits plays no part.
 use crate::OnOrder;
 use criterion::Goal;
 use reach::Marks;
 use table::Cells;
 use witness::Witness;
-ghost use Prim.Native.Nat.{_≤_, _<_};
-ghost use lib.ListN.{length};
-ghost use Rattle.table.specs.Rows.{rows};
-ghost use Rattle.table.specs.Fit.{Sound};
-ghost use Rattle.table_order.specs.Decided.{Shown, Decision};
+ghost use Rattle.table_order.specs.Decided.{Shown};
 
 // The lowest transition that can be overtaken, shown with the early word; or in order.
-fn show_overtaken(
+pub(crate) fn show_overtaken(
     cells: &Cells,
     count: usize,
     dist: &Marks,
@@ -26,25 +22,4 @@ fn show_overtaken(
         Witness::Shown(n, all) => OnOrder::Overtaken(n + 1, all),
         Witness::Nothing => OnOrder::InOrder,
     }
-}
-
-// The whole decision.
-pub(crate) fn decide(
-    cells: &Cells,
-    count: usize,
-    initial: u16,
-    trace: &mut [u16],
-    stamps: &mut [u32],
-) -> OnOrder
-    requires { ⌜ Sound (now cells) count × (initial < 32) × (270 ≤ length (now trace)) × (270 ≤ length (now stamps)) ⌝ }
-    ensures { λ r. ⌜ Decision (rows (now (cells .entry)) count) initial (now (trace .entry)) (now (stamps .entry))
-        r (now (trace .exit)) (now (stamps .exit)) ⌝ }
-{
-    let mut dist = [0u16; 32];
-    let mut via = [0u16; 32];
-    // Always so in a sound table.
-    if !reach::reach(cells, count, initial, &mut dist, &mut via) {
-        return OnOrder::InOrder;
-    }
-    show_overtaken(cells, count, &dist, &via, trace, stamps)
 }

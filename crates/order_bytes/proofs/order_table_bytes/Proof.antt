@@ -11,13 +11,13 @@ returns c = rw (into-stopped _ (c .before .before .before .read-into .ensures) (
 
 order-on-requires : tie.Need-order-on-requires
 order-on-requires c κs =
-    let r = c .before .before .before .before .before .before .before in
-    (into-valid _ (λ i. r .before .before .before .before .shared-slice-known .given i .fits) (r .read-into .ensures) refl, search needs)
+    let r = c .before .before .before .before .before in
+    into-valid _ (λ i. r .before .before .before .before .shared-slice-known .given i .fits) (r .read-into .ensures) refl
 
 returns-2 : tie.Need-returns-2
 returns-2 c =
-    let p = c .before .before .before .before .before .before in
-    let e = p .before .before .before .before .before .before in
+    let p = c .before .before .before .before in
+    let e = p .before .before .before .before in
     let r = e .before .before in
     let k = r .before .before .before .before .shared-slice-known in
     rw (into-read _ (r .read-into .ensures) (λ i. k .given i .fits) refl (e .enum-told .given .1)) (p .order-on .ensures)
@@ -26,11 +26,9 @@ pub order-table-bytes-spec : {M : Type 1} → statement M
 order-table-bytes-spec =
     tie.close
     (tie.spec
-    (λ c. search needs)
+    (λ c κs. search needs)
     (λ c. search needs)
     returns
-    (λ c. search needs)
-    (λ c. search needs)
     (λ c. search needs)
     order-on-requires
     (λ c. search needs)
