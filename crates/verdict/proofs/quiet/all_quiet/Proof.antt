@@ -1,12 +1,10 @@
 -- What is not named follows from the arithmetic around it.
 use borrow.Author.Needs.{needs}
 use native.Mathlib.Omega.{arith}
-use mathlib.Core.Path.{refl}
 use Prim.Native.Nat.{_-_}
 use lib.ListN.{length}
-use Rattle.model.proofs.AnswerLaws.{untold}
-use Rattle.verdict.proofs.MarkLaws.{apart}
-use Rattle.verdict.proofs.QuietLaws.{Testing, testing-first, testing-more, testing-last}
+use Rattle.model.proofs.AnswerLaws.{told, untold}
+use Rattle.verdict.proofs.QuietLaws.{Testing, testing-first, testing-over, testing-more, testing-last}
 use Rattle.verdict.proofs.quiet.all_quiet.Statement.{statement}
 use Rattle.verdict.proofs.quiet.all_quiet.Tie as tie
 
@@ -20,7 +18,10 @@ loop-holds : tie.Need-loop-holds Inv-loop μ-loop
 loop-holds c = testing-first (c .step .result) (c .step .ensures)
 
 returns : tie.Need-returns Inv-loop μ-loop
-returns c = λ e. absurd (apart e refl)
+returns c =
+    let a = c .before in
+    let s = a .before .before in
+    testing-over (s .before .before .loop .inv) (omega arith) (s .step2 .result) (s .step2 .ensures) (told (a .above .result) (a .above .ensures) (c .if1 .taken))
 
 loop-again : tie.Need-loop-again Inv-loop μ-loop
 loop-again c =
@@ -29,7 +30,7 @@ loop-again c =
     testing-more (s .before .before .loop .inv) (omega arith) (s .step2 .result) (s .step2 .ensures) (untold (a .above .result) (a .above .ensures) (c .if1 .left))
 
 returns-2 : tie.Need-returns-2 Inv-loop μ-loop
-returns-2 c = λ e. testing-last (c .before .loop .inv) (omega arith)
+returns-2 c = testing-last (c .before .loop .inv) (omega arith)
 
 pub all-quiet-spec : {M : Type 1} → statement M
 all-quiet-spec =
