@@ -1,2 +1,1 @@
 pub mod SoonestLaws
-pub mod OutcomeLaws

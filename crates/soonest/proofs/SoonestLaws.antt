@@ -13,8 +13,7 @@ use Rattle.model.specs.Lists.{All, total}
 use Rattle.model.specs.Table.{Transition, InRange, at, none}
 use Rattle.model.specs.Trace.{Trace, steps}
 use Rattle.model.specs.Span.{span}
-use Rattle.model.specs.Criterion.{Above}
-use Rattle.model.proofs.Lists.{all-at}
+use Rattle.model.proofs.CriterionLaws.{above-is}
 use Rattle.criterion.specs.declared.Goal.{Goal}
 use Rattle.criterion.specs.declared.Goal.the-variants.{Overtakes}
 use Rattle.walks.specs.Walks.{Seen, Followed, Starts}
@@ -86,20 +85,26 @@ module _ {ts : List Transition} where
   -- what is told of transition k
   module _ (fine : All (InRange 32) ts) {l : List ℕ} (soon : Soonest ts l) {k : ℕ} {t : Transition} (z : Seen ts k t) where
     pub not-sooner : t .d ≤ getD l (t .to) 0 → Followed Overtakes ts k → ⊥
-    unfolding Above
     not-sooner h p =
         let w = p .to in
         let d : Due ts (at ts k .to) (span (steps ts (w .rest ++ (p .m ∷ []))) .u + at ts (p .m) .d) =
         record { rest = w .rest; m = p .m; end = w .end; walk = w .walk; sum = refl } in
         let g : at ts k .d ≤ getD l (at ts k .to) 0 = rw (z .here) h in
-        omega (arith, soon .least (at ts k .to) _ d, w .meets)
+        omega (arith, soon .least (at ts k .to) _ d, above-is (at ts k) (at ts (p .m)) _ .0 (w .meets))
 
     pub is-sooner : getD l (t .to) 0 < t .d → Followed Overtakes ts k
-    unfolding Above
     is-sooner h =
         let d = soon .real .due (t .to) (z .fine .arrives) (omega (arith, z .fine .late)) in
         let g : getD l (t .to) 0 < at ts k .d = rw (z .here) h in
-        record { m = d .m; to = record { rest = d .rest; end = d .end; walk = rw (z .here) (d .walk); meets = omega (arith, d .sum) } }
+        record {
+          m = d .m;
+          to = record {
+            rest = d .rest;
+            end = d .end;
+            walk = rw (z .here) (d .walk);
+            meets = above-is (at ts k) (at ts (d .m)) _ .1 (omega (arith, d .sum));
+          };
+        }
 
     pub starts-here : {dist : List ℕ} → 1 ≤ getD dist (t .from) 0 → getD l (t .to) 0 < t .d → Starts Overtakes ts dist k
     starts-here {dist} g h =

@@ -2,4 +2,3 @@ pub mod OvertakenLaws
 pub mod KeptLaws
 pub mod RunLaws
 pub mod TableLaws
-pub mod OutcomeLaws

@@ -1,4 +1,4 @@
--- What is ruled out without a table: what starts a pair can be overtaken, and what turns has letters that differ.
+-- What is ruled out without a table: what turns can be overtaken, and has letters that differ.
 use mathlib.Core.Path.{_≡_, sym, _∙_}
 use mathlib.Core.Logic.{by-cases}
 use mathlib.Core.List.{List}
@@ -6,27 +6,22 @@ use Prim.Native.Nat.{ℕ, _<_}
 use native.Mathlib.Decide.{ℕ-discrete}
 use lib.ListN.{length}
 use Rattle.model.specs.Table.{Transition, at}
-use Rattle.criterion.specs.declared.Goal.{Goal}
 use Rattle.criterion.specs.declared.Goal.the-variants.{Turns, Overtakes}
-use Rattle.criterion.proofs.GoalLaws.{goal-sought}
 use Rattle.walks.specs.declared.Found.the-variants.{Nothing}
 use Rattle.walks.specs.Walks.{Starts, Least, LowestStart}
 use Rattle.walks.proofs.EndLaws.{end-known}
 use Rattle.starts.specs.Letters.{AnyUnlike}
 
-pub starts-overtaken : (goal : Goal) (ts : List Transition) (dist : List ℕ) (k : ℕ) → Starts goal ts dist k → Starts Overtakes ts dist k
-starts-overtaken goal ts dist k p =
+starts-overtaken : (ts : List Transition) (dist : List ℕ) (k : ℕ) → Starts Turns ts dist k → Starts Overtakes ts dist k
+starts-overtaken ts dist k p =
     let t = p .after .to in
     record {
       arrives = p .arrives;
-      after = record {
-        m = p .after .m;
-        to = record { rest = t .rest; end = t .end; walk = t .walk; meets = goal-sought goal .above (at ts k) (at ts (p .after .m)) _ _ (t .meets) };
-      };
+      after = record { m = p .after .m; to = record { rest = t .rest; end = t .end; walk = t .walk; meets = t .meets .above } };
     }
 
-pub none-overtaken : (goal : Goal) (c : List ℕ) (n : ℕ) (dist : List ℕ) → LowestStart Overtakes c n dist Nothing → LowestStart goal c n dist Nothing
-none-overtaken goal c n dist l x p = l x (p .0, starts-overtaken goal _ dist x (p .1))
+pub none-overtaken : (c : List ℕ) (n : ℕ) (dist : List ℕ) → LowestStart Overtakes c n dist Nothing → LowestStart Turns c n dist Nothing
+none-overtaken c n dist l x p = l x (p .0, starts-overtaken _ dist x (p .1))
 
 pub none-unlike : (ts : List Transition) → (AnyUnlike ts → ⊥) → {dist : List ℕ} → Least (Starts Turns ts dist) Nothing
 none-unlike ts none k s =

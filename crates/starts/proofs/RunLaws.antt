@@ -12,15 +12,13 @@ use Rattle.model.specs.Table.{Transition, InRange, at, none}
 use Rattle.model.specs.Trace.{Trace, steps}
 use Rattle.model.specs.Span.{span, lateSum}
 use Rattle.model.specs.Shown.{lateGap}
-use Rattle.model.specs.Criterion.{Above, Below}
+use Rattle.model.specs.Criterion.{Crosses}
 use Rattle.model.proofs.Lists.{all-at}
 use Rattle.model.proofs.Paths.{trace-split}
-use Rattle.criterion.specs.declared.Goal.{Goal}
-use Rattle.criterion.specs.declared.Goal.the-variants.{Turns, Overtakes}
-use Rattle.criterion.specs.Goals.{Meets}
+use Rattle.criterion.specs.declared.Goal.the-variants.{Turns}
+use Rattle.criterion.proofs.GoalLaws.{crosses-due}
 use Rattle.walks.specs.Walks.{Followed}
 use Rattle.walks.proofs.WalkLaws.{sum-last}
-use Rattle.walks.proofs.EndLaws.{end-known}
 use Rattle.starts.specs.declared.kept.Entry.{Entry}
 use Rattle.starts.specs.Kept.{cap, Kept, Asked, Joined, Ended, ended-not, ended-here}
 use Rattle.starts.specs.Runs.{Run, Alone, Begins, Under}
@@ -138,24 +136,21 @@ module _ {ts : List Transition} where
           (under-last u))
           (kept-taken (kept-joined k p (lateGap (at ts i)) j) (omega (arith, f .soon)) t)
 
--- what is asked of k and an end with the number x and the letter c; only here and in crate `criterion` the criterion is opened
-abbrev Wanted : Goal → Transition → ℕ → ℕ → Type 0
-Wanted Turns k x c = (k .output ≡ c → ⊥) × (k .d * 256 ≤ x)
-Wanted Overtakes k x c = 1 ≤ x
+-- an end with the number x and the letter c that turns with k
+abbrev Wanted : Transition → ℕ → ℕ → Type 0
+Wanted k x c = (k .output ≡ c → ⊥) × (k .d * 256 ≤ x)
 
-meets-wanted : (goal : Goal) (k m : Transition) (u late : ℕ) → InRange 32 k → InRange 32 m
-    → Meets goal k m u late ↔ ((u + m .d ≤ k .d - 1) × Wanted goal k (cap (late + m .d * 256)) (m .output))
-unfolding Above Below
-meets-wanted Turns k m u late f g = (
-  λ c. (omega (arith, c .above), (c .differ, omega (arith, c .below, f .late))),
-  λ w. record { differ = w .1 .0; above = omega (arith, f .soon); below = omega (arith, w .1 .1) },
-)
-meets-wanted Overtakes k m u late f g = (λ a. (omega arith, omega (arith, g .soon)), λ w. omega (arith, f .soon))
+crosses-wanted : (k m : Transition) (u late : ℕ) → InRange 32 k
+    → Crosses k m u late ↔ ((u + m .d ≤ k .d - 1) × Wanted k (cap (late + m .d * 256)) (m .output))
+crosses-wanted k m u late f =
+    let l = crosses-due k m u late in (
+      λ c. let w = l .0 c in (omega (arith, w .1), (w .0, omega (arith, w .2, f .late))),
+      λ w. l .1 (w .1 .0, omega (arith, w .0, f .soon), omega (arith, w .1 .1)),
+    )
 
 -- the ends that are kept answer for all
-wanted-asked : (goal : Goal) (k : Transition) {Q : ℕ → ℕ → Type 0} {a : Entry} → 1 ≤ k .d → Kept Q a
-    → ((x : ℕ) × (c : ℕ) × Q x c × Wanted goal k x c) ↔ Asked goal k a
-wanted-asked Turns k {a = a} d p = (
+wanted-asked : (k : Transition) {Q : ℕ → ℕ → Type 0} {a : Entry} → 1 ≤ k .d → Kept Q a → ((x : ℕ) × (c : ℕ) × Q x c × Wanted k x c) ↔ Asked k a
+wanted-asked k {a = a} d p = (
   λ w. dite (ℕ-discrete (k .output) (a .letter))
       (λ (e : k .output ≡ a .letter). inr (e, omega (arith, p .others (w .0) (w .1) (w .2) (λ z. w .3 .0 (e ∙ sym z)), w .3 .1)))
       (λ n. inl (n, omega (arith, p .most (w .0) (w .1) (w .2), w .3 .1))),
@@ -163,23 +158,16 @@ wanted-asked Turns k {a = a} d p = (
       (λ w. (a .first, a .letter, p .first (omega arith), (w .0, w .1)))
       (λ w. let s = p .second (omega arith) in (a .second, s .0, s .2, ((λ e. s .1 (sym e ∙ w .0)), w .1))),
 )
-wanted-asked Overtakes k {a = a} d p = (
-  λ w. omega (arith, p .most (w .0) (w .1) (w .2), w .3),
-  λ h. (a .first, a .letter, p .first h, h),
-)
 
-module _ (goal : Goal) {ts : List Transition} (fine : All (InRange 32) ts) {k : ℕ} (h : k < length ts) where
-  followed-run : Followed goal ts k → (x : ℕ) × (c : ℕ) × Run ts (at ts k .to) (at ts k .d - 1) x c × Wanted goal (at ts k) x c
+module _ {ts : List Transition} (fine : All (InRange 32) ts) {k : ℕ} (h : k < length ts) where
+  followed-run : Followed Turns ts k → (x : ℕ) × (c : ℕ) × Run ts (at ts k .to) (at ts k .d - 1) x c × Wanted (at ts k) x c
   followed-run p =
       let t = p .to in
-      let fm = all-at none fine (p .m) (end-known goal t) in
-      let w = meets-wanted goal (at ts k) (at ts (p .m)) _ _ (all-at none fine k h) fm .0 (t .meets) in
+      let w = crosses-wanted (at ts k) (at ts (p .m)) _ _ (all-at none fine k h) .0 (t .meets) in
       (_, _, record { rest = t .rest; m = p .m; end = t .end; walk = t .walk; fits = w .0; late = refl; letter = refl }, w .1)
 
-  run-followed : (x c : ℕ) → Run ts (at ts k .to) (at ts k .d - 1) x c → Wanted goal (at ts k) x c → Followed goal ts k
+  run-followed : (x c : ℕ) → Run ts (at ts k .to) (at ts k .d - 1) x c → Wanted (at ts k) x c → Followed Turns ts k
   run-followed x c r w =
-      let s = trace-split ts _ (r .end) (r .rest) (r .m ∷ []) (r .walk) in
-      let fm = all-at none fine (r .m) (s .2 .0) in
       let z = rw (r .late, r .letter) at w in
       record {
         m = r .m;
@@ -187,12 +175,12 @@ module _ (goal : Goal) {ts : List Transition} (fine : All (InRange 32) ts) {k : 
           rest = r .rest;
           end = r .end;
           walk = r .walk;
-          meets = meets-wanted goal (at ts k) (at ts (r .m)) _ _ (all-at none fine k h) fm .1 (r .fits, z);
+          meets = crosses-wanted (at ts k) (at ts (r .m)) _ _ (all-at none fine k h) .1 (r .fits, z);
         };
       }
 
   -- the entry of k answers for k
-  pub asked-law : {a : Entry} → Kept (Run ts (at ts k .to) (at ts k .d - 1)) a → Asked goal (at ts k) a ↔ Followed goal ts k
+  pub asked-law : {a : Entry} → Kept (Run ts (at ts k .to) (at ts k .d - 1)) a → Asked (at ts k) a ↔ Followed Turns ts k
   asked-law p =
-      let l = wanted-asked goal (at ts k) (all-at none fine k h .soon) p in
+      let l = wanted-asked (at ts k) (all-at none fine k h .soon) p in
       (λ a. let w = l .1 a in run-followed (w .0) (w .1) (w .2) (w .3), λ f. l .0 (followed-run f))

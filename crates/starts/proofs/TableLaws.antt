@@ -13,7 +13,7 @@ use Rattle.model.specs.Lists.{All}
 use Rattle.model.specs.Table.{Transition, InRange, at, none}
 use Rattle.model.specs.Shown.{lateGap}
 use Rattle.model.proofs.Lists.{all-at}
-use Rattle.criterion.specs.declared.Goal.{Goal}
+use Rattle.criterion.specs.declared.Goal.the-variants.{Turns}
 use Rattle.walks.specs.Walks.{Seen, Starts}
 use Rattle.starts.specs.declared.kept.Entry.{Entry}
 use Rattle.starts.specs.Kept.{Kept, entryOf, Asked, Joined, Ended}
@@ -192,10 +192,10 @@ module _ {ts : List Transition} {dist : List ℕ} where
     pub entry-there : (t .d - 1) * 32 + t .to < length first
     entry-there = omega (arith, rows-there, y .room, z .fine .soon, z .fine .arrives)
 
-    pub start-law : (goal : Goal) {a : Entry} → a ≡ cell first letter second (t .d - 1) (t .to) → Asked goal t a ↔ Starts goal ts dist k
-    start-law goal e =
+    pub start-law : {a : Entry} → a ≡ cell first letter second (t .d - 1) (t .to) → Asked t a ↔ Starts Turns ts dist k
+    start-law e =
         let p = y .filled .row (t .d - 1) (t .to) (omega (arith, rows-there, z .fine .soon)) (z .fine .arrives) in
-        let l = rw (z .here) at (asked-law goal fine (z .known) {a = cell first letter second (t .d - 1) (t .to)} (rw (z .here) p)) in
+        let l = rw (z .here) at (asked-law fine (z .known) {a = cell first letter second (t .d - 1) (t .to)} (rw (z .here) p)) in
         rw e (
           λ q. record { arrives = record { known = z .known; to = refl; leaves = rw (z .here) marked }; after = l .0 q },
           λ s. l .1 (s .after),

@@ -4,8 +4,6 @@ use mathlib.Core.Logic.{_⊎_}
 use Prim.Native.Nat.{ℕ, _+_, _*_, _≤_, _<_, min, max}
 use Rattle.model.specs.Table.{Transition}
 use Rattle.model.specs.Shown.{lateGap}
-use Rattle.criterion.specs.declared.Goal.{Goal}
-use Rattle.criterion.specs.declared.Goal.the-variants.{Turns, Overtakes}
 use Rattle.starts.specs.declared.kept.Entry.{Entry}
 
 -- in 1/256 tick; more than 240 ticks can't matter, since no delay is longer
@@ -41,7 +39,6 @@ pub data Ended (a : Entry) (t : Transition) (left : ℕ) : Entry → Type 0 wher
   ended-not : left < t .d → Ended a t left a
   ended-here : {r : Entry} → t .d ≤ left → Taken a (cap (lateGap t + t .d * 256)) (t .output) r → Ended a t left r
 
--- one of the ends is due as late as k and has another letter; or there is one
-abbrev pub Asked : Goal → Transition → Entry → Type 0
-Asked Turns k a = ((k .output ≡ a .letter → ⊥) × (k .d * 256 ≤ a .first)) ⊎ ((k .output ≡ a .letter) × (k .d * 256 ≤ a .second))
-Asked Overtakes k a = 1 ≤ a .first
+-- one of the ends is due as late as k and has another letter
+abbrev pub Asked : Transition → Entry → Type 0
+Asked k a = ((k .output ≡ a .letter → ⊥) × (k .d * 256 ≤ a .first)) ⊎ ((k .output ≡ a .letter) × (k .d * 256 ≤ a .second))

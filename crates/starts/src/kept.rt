@@ -1,5 +1,4 @@
 // What is kept of the walks from a state to their ends.
-use criterion::Goal;
 use table::Row;
 ghost use mathlib.Core.Path.{_≡_};
 ghost use Prim.Native.Nat.{_≤_, max};
@@ -93,28 +92,19 @@ pub(crate) fn ended(a: Entry, t: Row, left: usize) -> Entry
     )
 }
 
-// Whether one of the ends makes a pair of what is asked with k: what is asked is tested here alone.
-pub(crate) fn asked(goal: Goal, k: Row, a: Entry) -> bool
-    ensures { λ r. ⌜ Tells r (Asked goal (said k) a) ⌝ }
+// Whether one of the ends turns with k: what is asked is tested here alone.
+pub(crate) fn asked(k: Row, a: Entry) -> bool
+    ensures { λ r. ⌜ Tells r (Asked (said k) a) ⌝ }
 {
-    match goal {
-        Goal::Turns => {
-            if k.output == a.letter as u16 {
-                if (a.second as u32) < (k.d as u32) * 256 {
-                    return false;
-                }
-                return true;
-            }
-            if (a.first as u32) < (k.d as u32) * 256 {
-                return false;
-            }
-            true
+    let due = (k.d as u32) * 256;
+    if k.output == a.letter as u16 {
+        if (a.second as u32) < due {
+            return false;
         }
-        Goal::Overtakes => {
-            if a.first == 0 {
-                return false;
-            }
-            true
-        }
+        return true;
     }
+    if (a.first as u32) < due {
+        return false;
+    }
+    true
 }

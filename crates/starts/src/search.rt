@@ -3,13 +3,13 @@ use crate::kept::asked;
 use crate::sums::entry;
 use crate::sums::fill;
 use crate::sums::row;
-use criterion::Goal;
 use table::Cells;
 use table::Row;
 use walks::Found;
 ghost use Prim.Native.Nat.{_*_, _<_, _≤_};
 ghost use lib.ListN.{length};
 ghost use Rattle.model.specs.Answers.{Tells};
+ghost use Rattle.criterion.specs.declared.Goal.the-variants.{Turns};
 ghost use Rattle.table.specs.Fit.{Sound};
 ghost use Rattle.table.specs.Rows.{rows, said};
 ghost use Rattle.walks.specs.Walks.{Least, Starts};
@@ -43,9 +43,8 @@ pub(crate) fn rows_asked(cells: &Cells, count: usize, dist: &[u16; 32]) -> usize
     n
 }
 
-// Whether transition k leaves a marked state and starts a pair.
+// Whether transition k leaves a marked state and starts a pair that turns.
 fn starts(
-    goal: Goal,
     cells: &Cells,
     count: usize,
     dist: &[u16; 32],
@@ -55,7 +54,7 @@ fn starts(
     k: usize,
 ) -> bool
     requires { ⌜ Sound (now cells) count × (k < count) × Ready (rows (now cells) count) (now dist) (now first) (now letter) (now second) ⌝ }
-    ensures { λ r. ⌜ Tells r (Starts goal (rows (now (cells .entry)) count) (now (dist .entry)) k) ⌝ }
+    ensures { λ r. ⌜ Tells r (Starts Turns (rows (now (cells .entry)) count) (now (dist .entry)) k) ⌝ }
 {
     let t = row(cells, count, k);
     let mark = reach::mark_of(dist, t.from);
@@ -63,12 +62,11 @@ fn starts(
         return false;
     }
     let a = entry(first, letter, second, t.d as usize - 1, t.to as usize);
-    asked(goal, t, a)
+    asked(t, a)
 }
 
 // The lowest of them.
 fn first_start(
-    goal: Goal,
     cells: &Cells,
     count: usize,
     dist: &[u16; 32],
@@ -77,11 +75,11 @@ fn first_start(
     second: &[u16],
 ) -> Found
     requires { ⌜ Sound (now cells) count × Ready (rows (now cells) count) (now dist) (now first) (now letter) (now second) ⌝ }
-    ensures { λ r. ⌜ Least (Starts goal (rows (now (cells .entry)) count) (now (dist .entry))) r ⌝ }
+    ensures { λ r. ⌜ Least (Starts Turns (rows (now (cells .entry)) count) (now (dist .entry))) r ⌝ }
 {
     let mut k: usize = 0;
     while k < count {
-        if starts(goal, cells, count, dist, first, letter, second, k) {
+        if starts(cells, count, dist, first, letter, second, k) {
             return Found::At(k);
         }
         k += 1;
@@ -91,7 +89,6 @@ fn first_start(
 
 // The same, with the n rows that are looked at made first.
 pub(crate) fn lowest_start(
-    goal: Goal,
     cells: &Cells,
     count: usize,
     dist: &[u16; 32],
@@ -102,8 +99,8 @@ pub(crate) fn lowest_start(
 ) -> Found
     requires { ⌜ Sound (now cells) count × Covers (rows (now cells) count) (now dist) count n × Sized (now first) (now letter) (now second)
         × Blank (now first) (now second) 0 × (n * 32 ≤ length (now first)) ⌝ }
-    ensures { λ r. ⌜ Least (Starts goal (rows (now (cells .entry)) count) (now (dist .entry))) r ⌝ }
+    ensures { λ r. ⌜ Least (Starts Turns (rows (now (cells .entry)) count) (now (dist .entry))) r ⌝ }
 {
     fill(cells, count, first, letter, second, n);
-    first_start(goal, cells, count, dist, first, letter, second)
+    first_start(cells, count, dist, first, letter, second)
 }

@@ -4,3 +4,4 @@ pub mod SoonLaws
 pub mod EndLaws
 pub mod BackLaws
 pub mod OutcomeLaws
+pub mod StartLaws

@@ -37,8 +37,7 @@ use Rattle.walks.specs.declared.Found.{Found}
 use Rattle.walks.specs.declared.Found.the-variants.{At, Nothing}
 use Rattle.walks.specs.Walks.{LowestStart, ShownLeast, WalkOutcome}
 use Rattle.walks.proofs.OutcomeLaws.{write-walk-agree}
-use Rattle.soonest.proofs.OutcomeLaws.{lowest-within, lowest-only}
-use Rattle.starts.proofs.OutcomeLaws.{lowest-met, lowest-unmet}
+use Rattle.walks.proofs.StartLaws.{lowest-within, lowest-only, lowest-met, lowest-unmet}
 use Rattle.witness.specs.declared.Witness.{Witness}
 use Rattle.witness.specs.declared.Witness.the-variants.{Shown, Nothing as NoWitness}
 use Rattle.witness.specs.Witness.{searchTests, goalLeft, goalStamps, goalRoom, ShownOutcome, words-none, words-stepless, words-shown, WordsStand}

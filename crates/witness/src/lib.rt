@@ -10,6 +10,7 @@ ghost use mathlib.Core.Path.{_≡_};
 ghost use Rattle.table.specs.Refusal.{checkedFields};
 ghost use Rattle.table.specs.Rows.{tableIn, machineOf};
 ghost use Rattle.table.specs.Tests.{Tested};
+ghost use Rattle.walks.specs.Walks.{LowestStart};
 ghost use Rattle.witness.specs.Witness.{searchTests, WitnessOutcome, goalLeft, ShownOutcome};
 
 // A shown trace: how many steps stand before the pair's first one, and how many there are in all.
@@ -43,7 +44,17 @@ pub fn admitted(
     Checked::Sound
 }
 
-// The lowest transition that leaves a marked state and starts a pair, shown from the front of trace on.
+// The lowest transition that leaves a marked state and starts a pair.
+fn lowest(goal: Goal, cells: &Cells, count: usize, dist: &Marks) -> Found
+    ensures { λ r. ⌜ LowestStart goal (now (cells .entry)) count (now (dist .entry)) r ⌝ }
+{
+    match goal {
+        Goal::Turns => starts::lowest_turning(cells, count, dist),
+        Goal::Overtakes => soonest::lowest_overtaken(cells, count, dist),
+    }
+}
+
+// The same, shown from the front of trace on.
 pub fn write_lowest(
     goal: Goal,
     cells: &Cells,
@@ -54,7 +65,7 @@ pub fn write_lowest(
 ) -> Witness
     ensures { λ r. ⌜ WitnessOutcome goal (now (cells .entry)) count (now (dist .entry)) (now (via .entry)) (now (trace .entry)) r (now (trace .exit)) ⌝ }
 {
-    let found = starts::lowest(goal, cells, count, dist);
+    let found = lowest(goal, cells, count, dist);
     let Found::At(k) = found else {
         return Witness::Nothing;
     };
@@ -74,7 +85,7 @@ fn write_goal(goal: Goal, cells: &Cells, trace: &[u16], k: usize, m: usize, stam
     }
 }
 
-// The same with its words.
+// And with its words.
 pub fn show_lowest(
     goal: Goal,
     cells: &Cells,

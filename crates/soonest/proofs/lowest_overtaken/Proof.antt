@@ -5,7 +5,7 @@ use mathlib.Core.Path.{refl}
 use lib.ListN.{getD-replicate}
 use Rattle.model.proofs.AnswerLaws.{told, untold}
 use Rattle.criterion.specs.declared.Goal.the-variants.{Overtakes}
-use Rattle.soonest.proofs.OutcomeLaws.{lowest-sound}
+use Rattle.walks.proofs.StartLaws.{lowest-sound}
 use Rattle.soonest.proofs.SoonestLaws.{real-none}
 use Rattle.soonest.proofs.lowest_overtaken.Statement.{statement}
 use Rattle.soonest.proofs.lowest_overtaken.Tie as tie

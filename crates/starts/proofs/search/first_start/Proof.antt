@@ -5,16 +5,17 @@ use Prim.Native.Nat.{ℕ, _≤_, _<_, _-_}
 use Rattle.model.proofs.AnswerLaws.{told, untold}
 use Rattle.table.specs.Rows.{rows}
 use Rattle.table.proofs.RowLaws.{length-rows}
+use Rattle.criterion.specs.declared.Goal.the-variants.{Turns}
 use Rattle.walks.specs.Walks.{Starts}
 use Rattle.walks.proofs.EndLaws.{least-none}
 use Rattle.starts.proofs.search.first_start.Statement.{statement}
 use Rattle.starts.proofs.search.first_start.Tie as tie
 
 abbrev Inv-loop : tie.InvT-loop
-Inv-loop goal cells count dist first letter second k₀ k = (k ≤ count) × ((x : ℕ) → x < k → Starts goal (rows cells count) dist x → ⊥)
+Inv-loop cells count dist first letter second k₀ k = (k ≤ count) × ((x : ℕ) → x < k → Starts Turns (rows cells count) dist x → ⊥)
 
 abbrev μ-loop : tie.MeasureT-loop
-μ-loop goal cells count dist first letter second k₀ k = count - k
+μ-loop cells count dist first letter second k₀ k = count - k
 
 loop-holds : tie.Need-loop-holds Inv-loop μ-loop
 loop-holds c = (omega arith, λ x h. absurd (omega arith))

@@ -41,7 +41,7 @@ returns-2 c =
     let s = t .before .before .before .before .pre in
     let r = c .asked in
     let m = c .before .before .before .before .before .mark-of .ensures in
-    let law = start-law (s .0 .ranged) (s .2) (t .row .ensures) (omega (arith, m)) _ (c .before .entry .ensures) in
+    let law = start-law (s .0 .ranged) (s .2) (t .row .ensures) (omega (arith, m)) (c .before .entry .ensures) in
     tells-same (r .result) law (r .ensures)
 
 pub starts-spec : {M : Type 1} → statement M
