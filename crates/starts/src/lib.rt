@@ -18,10 +18,9 @@ fn in_few(cells: &Cells, count: usize, dist: &[u16; 32], n: usize) -> Found
     requires { ⌜ Sound (now cells) count × Covers (rows (now cells) count) (now dist) count n × (n ≤ 64) ⌝ }
     ensures { λ r. ⌜ Least (Starts Turns (rows (now (cells .entry)) count) (now (dist .entry))) r ⌝ }
 {
-    let mut first = [0u16; 2048];
-    let mut letter = [0u8; 2048];
-    let mut second = [0u16; 2048];
-    search::lowest_start(cells, count, dist, &mut first, &mut letter, &mut second, n)
+    let mut numbers = [0u32; 2048];
+    let mut letters = [0u8; 2048];
+    search::lowest_start(cells, count, dist, &mut numbers, &mut letters, n)
 }
 
 // The search in room for all rows.
@@ -29,10 +28,9 @@ fn in_all(cells: &Cells, count: usize, dist: &[u16; 32], n: usize) -> Found
     requires { ⌜ Sound (now cells) count × Covers (rows (now cells) count) (now dist) count n ⌝ }
     ensures { λ r. ⌜ Least (Starts Turns (rows (now (cells .entry)) count) (now (dist .entry))) r ⌝ }
 {
-    let mut first = [0u16; 7680];
-    let mut letter = [0u8; 7680];
-    let mut second = [0u16; 7680];
-    search::lowest_start(cells, count, dist, &mut first, &mut letter, &mut second, n)
+    let mut numbers = [0u32; 7680];
+    let mut letters = [0u8; 7680];
+    search::lowest_start(cells, count, dist, &mut numbers, &mut letters, n)
 }
 
 // The search by the table, in the room that it needs. Where all letters are alike there is nothing to search.

@@ -6,6 +6,7 @@ use crate::sums::row;
 use table::Cells;
 use table::Row;
 use walks::Found;
+ghost use mathlib.Core.Path.{_≡_};
 ghost use Prim.Native.Nat.{_*_, _<_, _≤_};
 ghost use lib.ListN.{length};
 ghost use Rattle.model.specs.Answers.{Tells};
@@ -13,7 +14,7 @@ ghost use Rattle.criterion.specs.declared.Goal.the-variants.{Turns};
 ghost use Rattle.table.specs.Fit.{Sound};
 ghost use Rattle.table.specs.Rows.{rows, said};
 ghost use Rattle.walks.specs.Walks.{Least, Starts};
-ghost use Rattle.starts.specs.Rows.{Sized, Blank, MoreRows, Covers, Ready};
+ghost use Rattle.starts.specs.Rows.{Blank, MoreRows, Covers, Ready};
 
 // The greater of n and the delay of t, if t leaves a marked state.
 fn rows_with(dist: &[u16; 32], t: Row, n: usize) -> usize
@@ -48,12 +49,11 @@ fn starts(
     cells: &Cells,
     count: usize,
     dist: &[u16; 32],
-    first: &[u16],
-    letter: &[u8],
-    second: &[u16],
+    numbers: &[u32],
+    letters: &[u8],
     k: usize,
 ) -> bool
-    requires { ⌜ Sound (now cells) count × (k < count) × Ready (rows (now cells) count) (now dist) (now first) (now letter) (now second) ⌝ }
+    requires { ⌜ Sound (now cells) count × (k < count) × Ready (rows (now cells) count) (now dist) (now numbers) (now letters) ⌝ }
     ensures { λ r. ⌜ Tells r (Starts Turns (rows (now (cells .entry)) count) (now (dist .entry)) k) ⌝ }
 {
     let t = row(cells, count, k);
@@ -61,7 +61,7 @@ fn starts(
     if mark == 0 {
         return false;
     }
-    let a = entry(first, letter, second, t.d as usize - 1, t.to as usize);
+    let a = entry(numbers, letters, t.d as usize - 1, t.to as usize);
     asked(t, a)
 }
 
@@ -70,16 +70,15 @@ fn first_start(
     cells: &Cells,
     count: usize,
     dist: &[u16; 32],
-    first: &[u16],
-    letter: &[u8],
-    second: &[u16],
+    numbers: &[u32],
+    letters: &[u8],
 ) -> Found
-    requires { ⌜ Sound (now cells) count × Ready (rows (now cells) count) (now dist) (now first) (now letter) (now second) ⌝ }
+    requires { ⌜ Sound (now cells) count × Ready (rows (now cells) count) (now dist) (now numbers) (now letters) ⌝ }
     ensures { λ r. ⌜ Least (Starts Turns (rows (now (cells .entry)) count) (now (dist .entry))) r ⌝ }
 {
     let mut k: usize = 0;
     while k < count {
-        if starts(cells, count, dist, first, letter, second, k) {
+        if starts(cells, count, dist, numbers, letters, k) {
             return Found::At(k);
         }
         k += 1;
@@ -92,15 +91,14 @@ pub(crate) fn lowest_start(
     cells: &Cells,
     count: usize,
     dist: &[u16; 32],
-    first: &mut [u16],
-    letter: &mut [u8],
-    second: &mut [u16],
+    numbers: &mut [u32],
+    letters: &mut [u8],
     n: usize,
 ) -> Found
-    requires { ⌜ Sound (now cells) count × Covers (rows (now cells) count) (now dist) count n × Sized (now first) (now letter) (now second)
-        × Blank (now first) (now second) 0 × (n * 32 ≤ length (now first)) ⌝ }
+    requires { ⌜ Sound (now cells) count × Covers (rows (now cells) count) (now dist) count n × (length (now letters) ≡ length (now numbers))
+        × Blank (now numbers) 0 × (n * 32 ≤ length (now numbers)) ⌝ }
     ensures { λ r. ⌜ Least (Starts Turns (rows (now (cells .entry)) count) (now (dist .entry))) r ⌝ }
 {
-    fill(cells, count, first, letter, second, n);
-    first_start(cells, count, dist, first, letter, second)
+    fill(cells, count, numbers, letters, n);
+    first_start(cells, count, dist, numbers, letters)
 }

@@ -11,13 +11,10 @@ slice-aggregate-lowest-start c = search needs
 slice-aggregate-lowest-start-2 : tie.Need-slice-aggregate-lowest-start-2
 slice-aggregate-lowest-start-2 c = search needs
 
-slice-aggregate-lowest-start-3 : tie.Need-slice-aggregate-lowest-start-3
-slice-aggregate-lowest-start-3 c = search needs
-
 lowest-start-requires : tie.Need-lowest-start-requires
 lowest-start-requires c κs =
-    let s = c .before .before .before .pre in
-    (s .0, s .1, record { letters = refl; seconds = refl }, blank-new 7680, omega (arith, s .1 .most))
+    let s = c .before .before .pre in
+    (s .0, s .1, refl, blank-new 7680, omega (arith, s .1 .most))
 
 returns : tie.Need-returns
 returns c = search needs
@@ -28,6 +25,5 @@ in-all-spec =
     (tie.spec
     slice-aggregate-lowest-start
     slice-aggregate-lowest-start-2
-    slice-aggregate-lowest-start-3
     lowest-start-requires
     returns)

@@ -12,10 +12,10 @@ use Rattle.starts.proofs.search.first_start.Statement.{statement}
 use Rattle.starts.proofs.search.first_start.Tie as tie
 
 abbrev Inv-loop : tie.InvT-loop
-Inv-loop cells count dist first letter second k₀ k = (k ≤ count) × ((x : ℕ) → x < k → Starts Turns (rows cells count) dist x → ⊥)
+Inv-loop cells count dist numbers letters k₀ k = (k ≤ count) × ((x : ℕ) → x < k → Starts Turns (rows cells count) dist x → ⊥)
 
 abbrev μ-loop : tie.MeasureT-loop
-μ-loop cells count dist first letter second k₀ k = count - k
+μ-loop cells count dist numbers letters k₀ k = count - k
 
 loop-holds : tie.Need-loop-holds Inv-loop μ-loop
 loop-holds c = (omega arith, λ x h. absurd (omega arith))
@@ -39,7 +39,7 @@ loop-again c =
 
 returns-2 : tie.Need-returns-2 Inv-loop μ-loop
 returns-2 c =
-    let a = c .before .before .before .before .before .args in
+    let a = c .before .before .before .before .args in
     least-none (λ x s. s .arrives .known) (omega (arith, length-rows (a .cells .now) (a .count))) (c .before .loop .inv .1)
 
 pub first-start-spec : {M : Type 1} → statement M

@@ -26,7 +26,7 @@ cast-entry-2 c = search needs
 
 entry-requires : tie.Need-entry-requires
 entry-requires c κs =
-    let s = c .before .before .before .before .before .before .before .before .pre in (
+    let s = c .before .before .before .before .before .before .before .pre in (
       s .2 .sized,
       entry-there (s .0 .ranged) (s .2) (c .before .before .before .before .row .ensures)
           (omega (arith, c .before .before .before .mark-of .ensures)),
@@ -38,7 +38,7 @@ asked-requires c κs = search needs
 returns-2 : tie.Need-returns-2
 returns-2 c =
     let t = c .before .before .before .before .before .before in
-    let s = t .before .before .before .before .pre in
+    let s = t .before .before .before .pre in
     let r = c .asked in
     let m = c .before .before .before .before .before .mark-of .ensures in
     let law = start-law (s .0 .ranged) (s .2) (t .row .ensures) (omega (arith, m)) (c .before .entry .ensures) in

@@ -6,17 +6,16 @@ use lib.ListN.{length}
 use Rattle.table.specs.Rows.{rows}
 use Rattle.table.proofs.RowLaws.{length-rows}
 use Rattle.starts.specs.Rows.{Filled}
-use Rattle.starts.proofs.TableLaws.{filled-none, making-none, sized-same}
+use Rattle.starts.proofs.TableLaws.{filled-none, making-none}
 use Rattle.starts.proofs.sums.fill.Statement.{statement}
 use Rattle.starts.proofs.sums.fill.Tie as tie
 
 abbrev Inv-loop : tie.InvT-loop
-Inv-loop cells count first₀ letter₀ second₀ n b₀ first letter second b =
-    (b ≤ n) × (length first ≡ length first₀) × (length letter ≡ length letter₀) × (length second ≡ length second₀)
-    × Filled (rows cells count) first letter second b
+Inv-loop cells count numbers₀ letters₀ n b₀ numbers letters b =
+    (b ≤ n) × (length numbers ≡ length numbers₀) × (length letters ≡ length letters₀) × Filled (rows cells count) numbers letters b
 
 abbrev μ-loop : tie.MeasureT-loop
-μ-loop cells count first₀ letter₀ second₀ n b₀ first letter second b = n - b
+μ-loop cells count numbers₀ letters₀ n b₀ numbers letters b = n - b
 
 first-row-requires : tie.Need-first-row-requires Inv-loop μ-loop
 first-row-requires c κs = search needs
@@ -24,13 +23,13 @@ first-row-requires c κs = search needs
 loop-holds : tie.Need-loop-holds Inv-loop μ-loop
 loop-holds c =
     let e = c .first-row .ensures in
-    (e .most, refl, refl, refl, filled-none (length-rows _ _) e (c .before .before .before .before .pre .2))
+    (e .most, refl, refl, filled-none (length-rows _ _) e (c .before .before .before .pre .2))
 
 sweep-requires : tie.Need-sweep-requires Inv-loop μ-loop
 sweep-requires c κs =
-    let s = c .before .before .before .before .before .before .before .before .before .pre in
-    let l = c .before .before .before .before .loop .inv in
-    (s .0, making-none (s .0 .ranged) (sized-same (l .1) (l .2) (l .3) (s .1)) (omega (arith, s .3, l .1, c .before .before .before .loop-test .taken)) (l .4))
+    let s = c .before .before .before .before .before .before .before .pre in
+    let l = c .before .before .before .loop .inv in
+    (s .0, making-none (s .0 .ranged) (omega (arith, s .1, l .1, l .2)) (omega (arith, s .3, l .1, c .before .before .loop-test .taken)) (l .3))
 
 add-b : tie.Need-add-b Inv-loop μ-loop
 add-b c = search needs
@@ -40,12 +39,11 @@ loop-less c = search needs
 
 loop-again : tie.Need-loop-again Inv-loop μ-loop
 loop-again c =
-    let r = c .before .before .before .before .before .before .sweep in
-    let l = c .before .before .before .before .before .before .before .before .before .before .before .loop .inv in (
+    let r = c .before .before .before .before .sweep in
+    let l = c .before .before .before .before .before .before .before .before .loop .inv in (
       omega arith,
       omega (arith, r .kept .1 .1 .0, l .1),
       omega (arith, r .kept .1 .1 .1 .0, l .2),
-      omega (arith, r .kept .1 .1 .1 .1 .0, l .3),
       r .ensures,
     )
 
@@ -55,13 +53,10 @@ same-length c = search needs
 same-length-2 : tie.Need-same-length-2 Inv-loop μ-loop
 same-length-2 c = search needs
 
-same-length-3 : tie.Need-same-length-3 Inv-loop μ-loop
-same-length-3 c = search needs
-
 returns : tie.Need-returns Inv-loop μ-loop
 returns c =
-    let e : c .before .loop .b ≡ c .before .before .before .before .before .before .args .n = omega arith in
-    rw e at (c .before .loop .inv .4)
+    let e : c .before .loop .b ≡ c .before .before .before .before .before .args .n = omega arith in
+    rw e at (c .before .loop .inv .3)
 
 pub fill-spec : {M : Type 1} → statement M
 fill-spec =
@@ -77,5 +72,4 @@ fill-spec =
     loop-again
     same-length
     same-length-2
-    same-length-3
     returns)

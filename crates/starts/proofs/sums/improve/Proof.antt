@@ -1,113 +1,77 @@
+-- What is not named follows from the arithmetic around it.
 use borrow.Author.Needs.{needs}
 use native.Mathlib.Omega.{arith}
+use Rattle.table.specs.Rows.{rows}
 use Rattle.walks.proofs.WalkLaws.{late-top}
+use Rattle.starts.specs.Rows.{Making}
 use Rattle.starts.proofs.TableLaws.{skip-long, skip-full, put-more, here-there, after-there}
 use Rattle.starts.proofs.sums.improve.Statement.{statement}
 use Rattle.starts.proofs.sums.improve.Tie as tie
 
-row-requires : tie.Need-row-requires
-row-requires c κs = search needs
+-- the row in the making, where the transition has been read
+making : (p : tie.After-row)
+    → let a = p .before .before .before .args in Making (rows (a .cells .now) (a .count)) (a .numbers .now) (a .letters .now) (a .b) (a .i)
+making p = p .before .before .before .pre .2
 
-cast-u : tie.Need-cast-u
-cast-u c = search needs
+-- back from where the entry was read
+abbrev read : tie.After-entry → tie.After-row
+read p = p .before .before .before .before .before .before
 
 returns : tie.Need-returns
-returns c = skip-long (c .before .before .before .before .before .before .pre .2) (c .before .before .row .ensures) (c .if1 .taken)
-
-cast-entry : tie.Need-cast-entry
-cast-entry c = search needs
-
-entry-requires : tie.Need-entry-requires
-entry-requires c κs = search needs
-
-same-length : tie.Need-same-length
-same-length c = search needs
-
-same-length-2 : tie.Need-same-length-2
-same-length-2 c = search needs
-
-same-length-3 : tie.Need-same-length-3
-same-length-3 c = search needs
+returns c = skip-long (making (c .before .before)) (c .before .before .row .ensures) (c .if1 .taken)
 
 returns-2 : tie.Need-returns-2
 returns-2 c =
     let a = c .before .before in
-    let z = a .before .before .before .before .before .before .before in
-    skip-full (z .before .before .before .before .pre .2) (z .row .ensures) (a .entry .ensures) (c .if2 .taken)
-
-cast-entry-2 : tie.Need-cast-entry-2
-cast-entry-2 c = search needs
+    skip-full (making (read a)) (read a .row .ensures) (a .entry .ensures) (c .if2 .taken)
 
 entry-requires-2 : tie.Need-entry-requires-2
 entry-requires-2 c κs =
-    let m = c .before .before .before .before .before .before .before .before .before .before .before .before .before .before .before .before .before .pre .2 in
-    (m .sized, after-there m (c .before .before .before .before .before .before .before .before .before .before .before .before .before .row .ensures))
-
-late-gap-requires : tie.Need-late-gap-requires
-late-gap-requires c κs = search needs
+    let z = read (c .before .before .before .before .before) in
+    (making z .sized, after-there (making z) (z .row .ensures))
 
 joined-requires : tie.Need-joined-requires
 joined-requires c κs =
-    let a = c .before .before .before .before .before .before .before .before in
-    omega (arith, late-top (a .before .before .before .before .before .before .before .row .ensures .fine), c .late-gap .ensures)
+    let z = read (c .before .before .before .before .before .before .before) in
+    omega (arith, late-top (z .row .ensures .fine), c .late-gap .ensures)
 
 ended-requires : tie.Need-ended-requires
-ended-requires c κs =
-    let a = c .before .before .before .before .before .before .before .before .before in
-    a .before .before .before .before .before .before .before .row .ensures .fine .answers
-
-cast-put : tie.Need-cast-put
-cast-put c = search needs
+ended-requires c κs = read (c .before .before .before .before .before .before .before .before) .row .ensures .fine .answers
 
 put-requires : tie.Need-put-requires
 put-requires c κs =
-    let a = c .before .before .before .before .before .before .before .before .before .before .before .before .before .before in
-    let z = a .before .before .before .before .before .before .before in
-    let m = z .before .before .before .before .pre .2 in
-    (m .sized, here-there m (z .row .ensures))
-
-same-length-4 : tie.Need-same-length-4
-same-length-4 c = search needs
-
-same-length-5 : tie.Need-same-length-5
-same-length-5 c = search needs
-
-same-length-6 : tie.Need-same-length-6
-same-length-6 c = search needs
+    let z = read (c .before .before .before .before .before .before .before .before .before .before .before .before) in
+    (making z .sized, here-there (making z) (z .row .ensures))
 
 returns-3 : tie.Need-returns-3
 returns-3 c =
-    let p = c .before .before .before .before .before .before .put .ensures in
-    let s = c .before .before .before .before .before .before .before .before .before .before .before in
+    let p = c .before .before .before .before .put .ensures in
+    let s = c .before .before .before .before .before .before .before .before in
     let e = s .before .before .before in
-    let a = e .before .before .before .before .before .before .before in
-    let z = a .before .before .before .before .before .before .before in
-    let m = z .before .before .before .before .pre .2 in
-    let low = a .before .before .before .before .before .if1 .left in
-    rw (p .0, p .1, p .2) (put-more m (z .row .ensures) low (a .entry .ensures) (e .entry2 .ensures) (s .before .before .late-gap .ensures)
-    (s .before .joined .ensures) (s .ended .ensures))
+    let a = e .before .before .before .before .before .before in
+    let z = read a in
+    rw (p .0, p .1) (put-more (making z) (z .row .ensures) (a .before .before .before .before .if1 .left) (a .entry .ensures) (e .entry2 .ensures)
+    (s .before .before .late-gap .ensures) (s .before .joined .ensures) (s .ended .ensures))
 
 pub improve-spec : {M : Type 1} → statement M
 improve-spec =
     tie.close
     (tie.spec
-    row-requires
-    cast-u
+    (λ c κs. search needs)
+    (λ c. search needs)
     returns
-    cast-entry
-    entry-requires
-    same-length
-    same-length-2
-    same-length-3
+    (λ c. search needs)
+    (λ c κs. search needs)
+    (λ c. search needs)
+    (λ c. search needs)
     returns-2
-    cast-entry-2
+    (λ c. search needs)
     entry-requires-2
-    late-gap-requires
+    (λ c κs. search needs)
     joined-requires
     ended-requires
-    cast-put
+    (λ c. search needs)
     put-requires
-    same-length-4
-    same-length-5
-    same-length-6
+    (λ c. search needs)
+    (λ c. search needs)
     returns-3)

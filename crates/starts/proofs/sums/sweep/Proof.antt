@@ -11,15 +11,14 @@ use Rattle.starts.proofs.sums.sweep.Statement.{statement}
 use Rattle.starts.proofs.sums.sweep.Tie as tie
 
 abbrev Inv-loop : tie.InvT-loop
-Inv-loop cells count first₀ letter₀ second₀ b i₀ first letter second i =
-    (i ≤ count) × (length first ≡ length first₀) × (length letter ≡ length letter₀) × (length second ≡ length second₀)
-    × Making (rows cells count) first letter second b i
+Inv-loop cells count numbers₀ letters₀ b i₀ numbers letters i =
+    (i ≤ count) × (length numbers ≡ length numbers₀) × (length letters ≡ length letters₀) × Making (rows cells count) numbers letters b i
 
 abbrev μ-loop : tie.MeasureT-loop
-μ-loop cells count first₀ letter₀ second₀ b i₀ first letter second i = count - i
+μ-loop cells count numbers₀ letters₀ b i₀ numbers letters i = count - i
 
 returns : tie.Need-returns Inv-loop μ-loop
-returns c = absurd (omega (arith, c .before .before .before .before .pre .0 .few))
+returns c = absurd (omega (arith, c .before .before .before .pre .0 .few))
 
 loop-holds : tie.Need-loop-holds Inv-loop μ-loop
 loop-holds c = search needs
@@ -35,12 +34,11 @@ loop-less c = search needs
 
 loop-again : tie.Need-loop-again Inv-loop μ-loop
 loop-again c =
-    let r = c .before .before .before .before .before .before .improve in
-    let l = c .before .before .before .before .before .before .before .before .before .before .before .loop .inv in (
+    let r = c .before .before .before .before .improve in
+    let l = c .before .before .before .before .before .before .before .before .loop .inv in (
       omega arith,
       omega (arith, r .kept .1 .1 .0, l .1),
       omega (arith, r .kept .1 .1 .1 .0, l .2),
-      omega (arith, r .kept .1 .1 .1 .1 .0, l .3),
       r .ensures,
     )
 
@@ -50,13 +48,10 @@ same-length c = search needs
 same-length-2 : tie.Need-same-length-2 Inv-loop μ-loop
 same-length-2 c = search needs
 
-same-length-3 : tie.Need-same-length-3 Inv-loop μ-loop
-same-length-3 c = search needs
-
 returns-2 : tie.Need-returns-2 Inv-loop μ-loop
 returns-2 c =
-    let a = c .before .before .before .before .before .before .args in
-    making-end (omega (arith, length-rows (a .cells .now) (a .count))) (c .before .loop .inv .4)
+    let a = c .before .before .before .before .before .args in
+    making-end (omega (arith, length-rows (a .cells .now) (a .count))) (c .before .loop .inv .3)
 
 pub sweep-spec : {M : Type 1} → statement M
 sweep-spec =
@@ -72,5 +67,4 @@ sweep-spec =
     loop-again
     same-length
     same-length-2
-    same-length-3
     returns-2)
