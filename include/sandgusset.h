@@ -112,10 +112,10 @@ extern "C" {
 #endif
 
 /* The version: a minor one adds calls and numbers, a major one changes what a call means (CHANGELOG.md). */
-#define SANDGUSSET_VERSION "2.1.0"
+#define SANDGUSSET_VERSION "2.1.1"
 #define SANDGUSSET_VERSION_MAJOR 2
 #define SANDGUSSET_VERSION_MINOR 1
-#define SANDGUSSET_VERSION_PATCH 0
+#define SANDGUSSET_VERSION_PATCH 1
 
 /* Values of the status field. */
 #define SANDGUSSET_DONE 0           /* strict, in order, steady, replayed, written or played */
@@ -162,8 +162,8 @@ extern "C" {
 
 /* Bytes of stack: each call uses less. Not counted are some KB that the system's loader takes at a first call in a program
  * that binds its functions late (linked without -z now). */
-#define SANDGUSSET_STACK_JUDGE 61440
-#define SANDGUSSET_STACK_ORDER 60416
+#define SANDGUSSET_STACK_JUDGE 46080
+#define SANDGUSSET_STACK_ORDER 45056
 #define SANDGUSSET_STACK_JUDGE_TRACE 12288
 #define SANDGUSSET_STACK_REPLAY 9216
 #define SANDGUSSET_STACK_REPLAY_WORDS 10240

@@ -1,7 +1,7 @@
 -- Laws of the soonest ends.
-use mathlib.Core.Path.{_≡_, refl, sym, ap, _∙_}
+use mathlib.Core.Path.{_≡_, refl, ap, _∙_}
 use mathlib.Core.Bool.{Bool, true, false, _||_}
-use mathlib.Core.Logic.{⊎-elim, dite, _↔_}
+use mathlib.Core.Logic.{dite}
 use mathlib.Core.List.{List, [], _∷_, _++_}
 use Prim.Native.Nat.{ℕ, zero, suc, _+_, min, _≤_, _<_}
 use native.Mathlib.Decide.{ℕ-discrete, decLt}
@@ -9,8 +9,8 @@ use native.Mathlib.Omega.{arith}
 use borrow.Author.Count.{below-more}
 use lib.ListN.{length, getD, set, length-set}
 use lib.Seq.{getD-set-same, getD-set-other}
-use Rattle.model.specs.Lists.{All, total}
-use Rattle.model.specs.Table.{Transition, InRange, at, none}
+use Rattle.model.specs.Lists.{total}
+use Rattle.model.specs.Table.{Transition, at}
 use Rattle.model.specs.Trace.{Trace, steps}
 use Rattle.model.specs.Span.{span}
 use Rattle.model.proofs.CriterionLaws.{above-is}
@@ -83,7 +83,7 @@ module _ {ts : List Transition} where
       record { real = r; least = λ s x d. omega (arith, least-by ts (rw (← e) at z) (d .rest) (d .m) s (d .end) (d .walk), d .sum) }
 
   -- what is told of transition k
-  module _ (fine : All (InRange 32) ts) {l : List ℕ} (soon : Soonest ts l) {k : ℕ} {t : Transition} (z : Seen ts k t) where
+  module _ {l : List ℕ} (soon : Soonest ts l) {k : ℕ} {t : Transition} (z : Seen ts k t) where
     pub not-sooner : t .d ≤ getD l (t .to) 0 → Followed Overtakes ts k → ⊥
     not-sooner h p =
         let w = p .to in

@@ -6,7 +6,6 @@ use table::Row;
 use walks::Found;
 ghost use mathlib.Core.Path.{_≡_};
 ghost use Prim.Native.Nat.{_+_, min, _<_, _≤_};
-ghost use lib.ListN.{length};
 ghost use Rattle.model.specs.Answers.{Tells};
 ghost use Rattle.model.specs.Table.{at};
 ghost use Rattle.table.specs.Rows.{rows, said};

@@ -1,6 +1,6 @@
 -- Laws of the table of what is kept: how it is filled, and how many rows are looked at.
 use mathlib.Core.Path.{_≡_, refl, sym, _∙_}
-use mathlib.Core.Logic.{_⊎_, ⊎-elim, _↔_, dite}
+use mathlib.Core.Logic.{⊎-elim, _↔_, dite}
 use mathlib.Core.List.{List}
 use Prim.Native.Nat.{ℕ, _+_, _*_, _/_, _-_, _≤_, _<_, min}
 use native.Mathlib.Nat.{eq-or-lt-of-le, eq-zero-or-pos}

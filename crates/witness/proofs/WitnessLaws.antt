@@ -42,7 +42,7 @@ use Rattle.witness.specs.declared.Witness.{Witness}
 use Rattle.witness.specs.declared.Witness.the-variants.{Shown, Nothing as NoWitness}
 use Rattle.witness.specs.Witness.{searchTests, goalLeft, goalStamps, goalRoom, ShownOutcome, words-none, words-stepless, words-shown, WordsStand}
 use Rattle.witness.specs.Witness.{WitnessesAgree, agree-none, agree-shown, WitnessOutcome, none-shown, one-shown, wayFor, machineWith, ShowsPair, PairStands}
-use Rattle.witness.proofs.WayLaws.{way-number, way-short, way-traced, way-stands, one-long, way-front, behind-way}
+use Rattle.witness.proofs.WayLaws.{way-number, way-short, way-traced, one-long, way-front, behind-way}
 
 -- by the words' definition, where what is asked is the criterion of a pair
 pub shows-lowest : (goal : Goal) (m : Machine) {Pair : List Transition → ℕ → ℕ → Type 0} → ((i : ℕ) → StepOf Pair m i ↔ WalkFrom (Meets goal) m i)

@@ -12,12 +12,12 @@ returns c = λ p. not-marked (c .before .before .row .ensures) Overtakes _ (omeg
 returns-2 : tie.Need-returns-2
 returns-2 c =
     let r = c .before .before .before .before .before in
-    λ p. not-sooner (r .before .pre .0 .ranged) (r .before .pre .2) (r .row .ensures) (omega arith) (p .after)
+    λ p. not-sooner (r .before .pre .2) (r .row .ensures) (omega arith) (p .after)
 
 returns-3 : tie.Need-returns-3
 returns-3 c =
     let r = c .before .before .before .before .before in
-    starts-here (r .before .pre .0 .ranged) (r .before .pre .2) (r .row .ensures) (omega arith) (omega arith)
+    starts-here (r .before .pre .2) (r .row .ensures) (omega arith) (omega arith)
 
 pub overtaken-spec : {M : Type 1} → statement M
 overtaken-spec = tie.close (tie.spec (λ c κs. search needs) (λ c κs. search needs) returns (λ c κs. search needs) returns-2 returns-3)

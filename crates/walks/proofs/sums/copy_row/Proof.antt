@@ -1,8 +1,6 @@
 use borrow.Author.Needs.{needs}
 use native.Mathlib.Omega.{arith}
-use mathlib.Core.Path.{_≡_, refl}
 use Prim.Native.Nat.{_≤_, _-_}
-use lib.ListN.{length, length-set}
 use Rattle.walks.specs.Best.{Copied}
 use Rattle.walks.proofs.BestLaws.{copied-none, copied-more, copied-at}
 use Rattle.walks.proofs.sums.copy_row.Statement.{statement}

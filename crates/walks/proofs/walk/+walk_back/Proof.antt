@@ -2,8 +2,7 @@ use borrow.Author.Needs.{needs}
 use borrow.Fn.Kinds.{In}
 use borrow.Fn.PlainCycle.{Measures, is, falls, and}
 use native.Mathlib.Omega.{arith}
-use mathlib.Core.Path.{_∙_}
-use Prim.Native.Nat.{ℕ, _-_, _<_}
+use Prim.Native.Nat.{ℕ, _<_}
 use lib.ListN.{length-set}
 use Rattle.table.proofs.RowLaws.{length-rows}
 use Rattle.walks.proofs.BackLaws.{explained, step-falls, back-stands, first-went, back-on, went-step}

@@ -1,7 +1,7 @@
 -- What is not named follows from the arithmetic around it.
 use borrow.Author.Needs.{needs}
 use native.Mathlib.Omega.{arith}
-use mathlib.Core.Path.{_≡_, ap, _∙_}
+use mathlib.Core.Path.{ap, _∙_}
 use Rattle.model.proofs.CriterionLaws.{slack-small}
 use Rattle.table.proofs.RowLaws.{length-rows}
 use Rattle.walks.specs.Best.{asked}

@@ -1,7 +1,6 @@
 use borrow.Author.Needs.{needs}
 use native.Mathlib.Omega.{arith}
 use Rattle.table.proofs.RowLaws.{length-rows}
-use Rattle.walks.proofs.BestLaws.{roomy}
 use Rattle.walks.proofs.SoonLaws.{rows-most}
 use Rattle.walks.proofs.BackLaws.{show-ready}
 use Rattle.walks.proofs.walk.fill_for.Statement.{statement}

@@ -2,7 +2,7 @@ use borrow.Author.Needs.{needs}
 use native.Mathlib.Omega.{arith}
 use mathlib.Core.Path.{_≡_, refl}
 use Prim.Native.Nat.{_+_, _-_}
-use lib.ListN.{length, length-set}
+use lib.ListN.{length-set}
 use Rattle.walks.proofs.BackLaws.{end-back, end-shown}
 use Rattle.walks.proofs.walk.write_pair.Statement.{statement}
 use Rattle.walks.proofs.walk.write_pair.Tie as tie
