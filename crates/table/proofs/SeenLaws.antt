@@ -3,13 +3,13 @@ use mathlib.Core.Path.{_≡_, refl, sym, _∙_}
 use mathlib.Core.Bool.{Bool, true, false}
 use mathlib.Core.Logic.{_⊎_, inl, inr, ⊎-elim, dite}
 use mathlib.Core.List.{List, [], _∷_, _++_}
-use Prim.Native.Nat.{ℕ, _+_}
-use native.Mathlib.Decide.{ℕ-discrete}
+use Prim.Native.Nat.{ℕ, _+_, _%_, _/_, _≤_, _<_}
+use native.Mathlib.Decide.{ℕ-discrete, decLt}
 use native.Mathlib.Omega.{arith}
-use borrow.Author.Tests.{eq-eqb, ne-eqb}
+use borrow.Author.Tests.{eq-eqb, ne-eqb, lt-ltb, le-ltb}
 use lib.Dec.{eqb}
-use lib.ListN.{length, getD, set, length-set}
-use lib.Seq.{getD-set-same, getD-set-other}
+use lib.ListN.{length, getD, set, length-set, List·getD-eq-default}
+use lib.Seq.{set-out, getD-set-same, getD-set-other}
 use Rattle.model.specs.Lists.{In}
 use Rattle.model.specs.Table.{Transition}
 use Rattle.model.proofs.Lists.{in-append}
@@ -18,6 +18,19 @@ use Rattle.table.specs.Check.{has}
 use Rattle.table.specs.Seen.{keyOf, placeOf, markOf, markAt, Stands, suspect, noted, Marked}
 use Rattle.table.proofs.RowLaws.{listed-more}
 use Rattle.table.proofs.RangeLaws.{refuted, differ, has-in, or-false, or-right}
+
+-- a place is among those that there are
+module _ (size key : ℕ) where
+  pub place-few : size < 2048 → key / 4194304 % 256 ≡ placeOf size key
+  unfolding placeOf
+  place-few h = rw (lt-ltb size 2048 h)
+
+  pub place-many : 2048 ≤ size → key / 4194304 % 2048 ≡ placeOf size key
+  unfolding placeOf
+  place-many h = rw (le-ltb size 2048 h)
+
+  place-inside : 256 ≤ size → placeOf size key < size
+  place-inside h = dite (decLt size 2048) (λ (g : size < 2048). omega (arith, place-few g)) (λ n. omega (arith, place-many (omega arith)))
 
 -- what a place says of a key, and what is put there
 module _ (seen : List ℕ) (key : ℕ) where
@@ -35,23 +48,27 @@ module _ (seen : List ℕ) (key : ℕ) where
   unfolding suspect
   suspect-full n = rw (ne-eqb (markAt seen key) (markOf key) n)
 
-  pub noted-first : markAt seen key ≡ 0 → set seen (placeOf key) (markOf key) ≡ noted seen key
+  pub noted-first : markAt seen key ≡ 0 → set seen (placeOf (length seen) key) (markOf key) ≡ noted seen key
   unfolding noted
   noted-first e = rw (eq-eqb (markAt seen key) 0 e)
 
-  pub noted-again : (markAt seen key ≡ 0 → ⊥) → set seen (placeOf key) 255 ≡ noted seen key
+  pub noted-again : (markAt seen key ≡ 0 → ⊥) → set seen (placeOf (length seen) key) 255 ≡ noted seen key
   unfolding noted
   noted-again n = rw (ne-eqb (markAt seen key) 0 n)
 
+  -- where there is no such place, nothing stands and nothing is put
+  pub noted-nowhere : length seen ≤ placeOf (length seen) key → seen ≡ noted seen key
+  noted-nowhere h = sym (set-out seen _ (markOf key) h) ∙ noted-first (List·getD-eq-default seen 0 h)
+
   -- the mark where nothing stood, else 255
-  noted-is : (x : ℕ) × (noted seen key ≡ set seen (placeOf key) x) × (((x ≡ markOf key) × (markAt seen key ≡ 0)) ⊎ (x ≡ 255))
+  noted-is : (x : ℕ) × (noted seen key ≡ set seen (placeOf (length seen) key) x) × (((x ≡ markOf key) × (markAt seen key ≡ 0)) ⊎ (x ≡ 255))
   noted-is =
       dite (ℕ-discrete (markAt seen key) 0)
       (λ e. (markOf key, sym (noted-first e), inl (refl, e)))
       (λ n. (255, sym (noted-again n), inr refl))
 
 -- a loop over transitions: before the first, and one more
-pub marked-start : (f : ℕ → Transition) (seen : List ℕ) → length seen ≡ 2048 → Marked seen (listed f 0)
+pub marked-start : (f : ℕ → Transition) (seen : List ℕ) → 256 ≤ length seen → Marked seen (listed f 0)
 unfolding listed
 marked-start f seen e = record { size = e; each = λ t m. absurd m }
 
@@ -61,33 +78,37 @@ marked-listed f i e m = rw (listed-more f i, ← e) m
 -- t comes next
 module _ {seen : List ℕ} {ts : List Transition} (p : Marked seen ts) (t : Transition) where
   abbrev k : ℕ
-  k = placeOf (keyOf t)
+  k = placeOf (length seen) (keyOf t)
 
   -- its own mark where nothing stood, or 255
   put-marked : (x : ℕ) → ((x ≡ markOf (keyOf t)) × (getD seen k 0 ≡ 0)) ⊎ (x ≡ 255) → Marked (set seen k x) (ts ++ (t ∷ []))
   put-marked x w =
       record {
-        size = length-set seen k x ∙ p .size;
-        each = λ s i. ⊎-elim (old s) (⊎-elim (own s) (λ z. absurd z)) (in-append s ts (t ∷ []) .0 i);
+        size = rw (length-set seen k x) (p .size);
+        each = λ s i. rw (length-set seen k x) (⊎-elim (old s) (⊎-elim (own s) (λ z. absurd z)) (in-append s ts (t ∷ []) .0 i));
       }
     where
       put : getD (set seen k x) k 0 ≡ x
-      put = getD-set-same seen k x 0 (omega (arith, p .size))
+      put = getD-set-same seen k x 0 (place-inside (length seen) (keyOf t) (p .size))
 
-      here : Stands (set seen k x) (keyOf t)
+      -- a key by what stands at its place now
+      Now : Transition → Type 0
+      Now s = (getD (set seen k x) (placeOf (length seen) (keyOf s)) 0 ≡ markOf (keyOf s)) ⊎ (getD (set seen k x) (placeOf (length seen) (keyOf s)) 0 ≡ 255)
+
+      here : Now t
       here = ⊎-elim (λ y. inl (put ∙ y .0)) (λ y. inr (put ∙ y)) w
 
-      own : (s : Transition) → s ≡ t → Stands (set seen k x) (keyOf s)
+      own : (s : Transition) → s ≡ t → Now s
       own s q = rw q here
 
-      full : (s : Transition) → In s ts → placeOf (keyOf s) ≡ k → getD seen k 0 ≡ 0 → ⊥
+      full : (s : Transition) → In s ts → placeOf (length seen) (keyOf s) ≡ k → getD seen k 0 ≡ 0 → ⊥
       full s i q z = ⊎-elim (λ a. omega arith) (λ a. omega arith) (rw (q, z) at (p .each s i))
 
-      old : (s : Transition) → In s ts → Stands (set seen k x) (keyOf s)
+      old : (s : Transition) → In s ts → Now s
       old s i =
-          dite (ℕ-discrete (placeOf (keyOf s)) k)
+          dite (ℕ-discrete (placeOf (length seen) (keyOf s)) k)
           (λ q. rw (q, put) (⊎-elim (λ y. absurd (full s i q (y .1))) (λ y. inr y) w))
-          (λ n. rw (getD-set-other seen k (placeOf (keyOf s)) x 0 n) (p .each s i))
+          (λ n. rw (getD-set-other seen k (placeOf (length seen) (keyOf s)) x 0 n) (p .each s i))
 
   marked-noted : Marked (noted seen (keyOf t)) (ts ++ (t ∷ []))
   marked-noted = let n = noted-is seen (keyOf t) in rw (n .1) (put-marked (n .0) (n .2))

@@ -38,9 +38,6 @@ pub struct Row {
 // Seven numbers for each of 256 transitions; how they stand there is known to this crate alone.
 pub type Cells = [u16; 1792];
 
-// Marks of a table's transitions, all 0 before the first: they tell most transitions from all others at one look.
-pub type Seen = [u8; 2048];
-
 // A table. Only the crate knows how the transitions stand in the cells.
 pub struct Table {
     pub states: u16,

@@ -7,6 +7,7 @@ use crate::seen::key;
 use crate::seen::mark;
 ghost use mathlib.Core.Path.{_≡_};
 ghost use Prim.Native.Nat.{_≤_};
+ghost use lib.ListN.{length};
 ghost use Rattle.model.specs.Answers.{Tells};
 ghost use Rattle.model.specs.Lists.{All};
 ghost use Rattle.model.specs.Table.{InRange};
@@ -63,16 +64,15 @@ pub(crate) fn all_in_range(cells: &Cells, n: usize, states: u16) -> bool
     true
 }
 
-// No one of the first n transitions equal to an earlier one.
-pub(crate) fn all_unlike(cells: &Cells, n: usize) -> bool
-    requires { ⌜ n ≤ 256 ⌝ }
+// No one of the first n transitions equal to an earlier one, by marks.
+fn unlike_by(cells: &Cells, n: usize, seen: &mut [u8]) -> bool
+    requires { ⌜ (n ≤ 256) × (256 ≤ length (now seen)) ⌝ }
     ensures { λ b. ⌜ Tells b (Unlike (rows (now (cells .entry)) n)) ⌝ }
 {
-    let mut seen = [0u8; 2048];
     let mut i: usize = 0;
     while i < n {
         let r = row_at(cells, i);
-        if mark(&mut seen, key(r)) {
+        if mark(seen, key(r)) {
             if has_row(cells, i, r) {
                 return false;
             }
@@ -80,4 +80,17 @@ pub(crate) fn all_unlike(cells: &Cells, n: usize) -> bool
         i += 1;
     }
     true
+}
+
+// The same, with marks as many as they need.
+pub(crate) fn all_unlike(cells: &Cells, n: usize) -> bool
+    requires { ⌜ n ≤ 256 ⌝ }
+    ensures { λ b. ⌜ Tells b (Unlike (rows (now (cells .entry)) n)) ⌝ }
+{
+    if n <= 16 {
+        let mut few = [0u8; 256];
+        return unlike_by(cells, n, &mut few);
+    }
+    let mut seen = [0u8; 2048];
+    unlike_by(cells, n, &mut seen)
 }

@@ -1,9 +1,8 @@
 // Whether a transition was met before: nearly always one place of a small array tells.
 use crate::Row;
-use crate::Seen;
 ghost use mathlib.Core.Path.{_≡_};
 ghost use Rattle.table.specs.Rows.{said};
-ghost use Rattle.table.specs.Seen.{mixOf, keyOf, suspect, noted};
+ghost use Rattle.table.specs.Seen.{mixOf, keyOf, placeOf, suspect, noted};
 
 // Four numbers mixed, by few products; nothing wraps.
 pub fn mixed(a: u32, b: u32, c: u32, d: u16) -> u64
@@ -24,11 +23,24 @@ pub(crate) fn key(r: Row) -> u64
     )
 }
 
-// Whether its place leaves it open that a transition with this key was met; then it is marked.
-pub fn mark(seen: &mut Seen, key: u64) -> bool
+// Its place among so many: few rows are told apart in few places, which are sooner cleared.
+fn place(size: usize, key: u64) -> usize
+    ensures { λ k. ⌜ k ≡ placeOf size key ⌝ }
+{
+    if size < 2048 {
+        return (key / 4194304 % 256) as usize;
+    }
+    (key / 4194304 % 2048) as usize
+}
+
+// Whether its place leaves it open that a transition with this key was met; then it is marked. All places are 0 before the first.
+pub fn mark(seen: &mut [u8], key: u64) -> bool
     ensures { λ b. ⌜ (b ≡ suspect (now (seen .entry)) key) × (now (seen .exit) ≡ noted (now (seen .entry)) key) ⌝ }
 {
-    let k = (key / 4194304 % 2048) as usize;
+    let k = place(seen.len(), key);
+    if seen.len() <= k {
+        return false;
+    }
     let m = (key / 8589934592 % 128 + 1) as u8;
     let x = seen[k];
     if x == 0 {

@@ -7,7 +7,6 @@ use table::Cells;
 use table::Checked;
 use table::Refusal;
 use table::Row;
-use table::Seen;
 use table::head_fine;
 use table::ranges::in_range;
 use table::rows::put_row;
@@ -157,7 +156,7 @@ fn key_in(body: &[u8]) -> u64
 }
 
 // 3, 4, 5 of the transition in record n. Marks tell it from nearly all before it; what they leave open the file tells.
-fn admit(file: &[u8], seen: &mut Seen, states: u16, n: usize, at: usize, t: Row) -> Checked
+fn admit(file: &[u8], seen: &mut [u8], states: u16, n: usize, at: usize, t: Row) -> Checked
     requires { ⌜ Next (now file) (now seen) n at t ⌝ }
     ensures { λ a. ⌜ Admitted (now (file .entry)) states at n t a (now (seen .exit)) ⌝ }
 {
@@ -175,12 +174,11 @@ fn admit(file: &[u8], seen: &mut Seen, states: u16, n: usize, at: usize, t: Row)
     Checked::Sound
 }
 
-// The records after the head.
-fn check_rows(file: &[u8], states: u16) -> Counted
-    requires { ⌜ 8 ≤ length (now file) ⌝ }
+// The records after the head, by marks.
+fn rows_by(file: &[u8], states: u16, seen: &mut [u8]) -> Counted
+    requires { ⌜ (8 ≤ length (now file)) × (256 ≤ length (now seen)) ⌝ }
     ensures { λ r. ⌜ RowsOutcome states (now (file .entry)) r ⌝ }
 {
-    let mut seen = [0u8; 2048];
     let mut at: usize = 8;
     let mut n: usize = 0;
     loop {
@@ -193,7 +191,7 @@ fn check_rows(file: &[u8], states: u16) -> Counted
                 return finish(file, at, n);
             }
             Frame::Took(t) => {
-                let a = admit(file, &mut seen, states, n, at, t);
+                let a = admit(file, seen, states, n, at, t);
                 if let Checked::Refused(r) = a {
                     return Counted::Stop(r);
                 }
@@ -202,6 +200,19 @@ fn check_rows(file: &[u8], states: u16) -> Counted
             }
         }
     }
+}
+
+// The same, with marks as many as they need: 300 bytes have no more than 16 transitions.
+fn check_rows(file: &[u8], states: u16) -> Counted
+    requires { ⌜ 8 ≤ length (now file) ⌝ }
+    ensures { λ r. ⌜ RowsOutcome states (now (file .entry)) r ⌝ }
+{
+    if file.len() <= 300 {
+        let mut few = [0u8; 256];
+        return rows_by(file, states, &mut few);
+    }
+    let mut seen = [0u8; 2048];
+    rows_by(file, states, &mut seen)
 }
 
 // The whole file tested, nothing stored.

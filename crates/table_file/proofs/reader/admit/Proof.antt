@@ -11,43 +11,43 @@ use Rattle.table_file.proofs.reader.admit.Tie as tie
 
 returns : tie.Need-returns
 returns c =
-    let s = c .before .before in
+    let s = c .before .before .before in
     let a = s .args in
     admitted-full (a .file .now) (a .states) (a .at) (a .n) (a .t) (s .pre) _ (c .if1 .taken)
 
 returns-2 : tie.Need-returns-2
 returns-2 c =
-    let s = c .before .before .before .before in
+    let s = c .before .before .before .before .before in
     let a = s .args in
     admitted-range (a .file .now) (a .states) (a .at) (a .n) (a .t) (s .pre) _ (c .before .before .if1 .left)
     (sym (c .before .in-range .ensures) ∙ not-true _ (c .if2 .taken))
 
 -- every number within its range
-ranged : (p : tie.Else2) → let a = p .before .before .before .before .args in inRange (a .states) (said (a .t)) ≡ true
+ranged : (p : tie.Else2) → let a = p .before .before .before .before .before .args in inRange (a .states) (said (a .t)) ≡ true
 ranged p = sym (p .before .in-range .ensures) ∙ not-false _ (p .if2 .left)
 
 returns-3 : tie.Need-returns-3
 returns-3 c =
-    let p = c .before .before .before .before .before .before .before in
-    let s = p .before .before .before .before in
+    let p = c .before .before .before .before .before .before .before .before .before in
+    let s = p .before .before .before .before .before in
     let a = s .args in
     admitted-twin (a .file .now) (a .states) (a .at) (a .n) (a .t) (s .pre) _ (p .before .before .if1 .left) (ranged p)
     (sym (c .before .has-record .ensures) ∙ c .if4 .taken)
 
 returns-4 : tie.Need-returns-4
 returns-4 c =
-    let m = c .before .before .before in
+    let m = c .before .before .before .before .before in
     let p = m .before .before .before .before in
-    let s = p .before .before .before .before in
+    let s = p .before .before .before .before .before in
     let a = s .args in
     admitted-new (a .file .now) (a .states) (a .at) (a .n) (a .t) (s .pre) _ (p .before .before .if1 .left) (ranged p)
     (m .before .key-in .ensures) (m .mark .ensures .1) (sym (c .before .has-record .ensures) ∙ c .if4 .left)
 
 returns-5 : tie.Need-returns-5
 returns-5 c =
-    let m = c .before in
+    let m = c .before .before .before in
     let p = m .before .before .before .before in
-    let s = p .before .before .before .before in
+    let s = p .before .before .before .before .before in
     let a = s .args in
     admitted-unmarked (a .file .now) (a .states) (a .at) (a .n) (a .t) (s .pre) _ (p .before .before .if1 .left) (ranged p)
     (m .before .key-in .ensures) (m .mark .ensures .1) (m .mark .ensures .0) (c .if3 .left)
@@ -67,6 +67,9 @@ admit-spec =
     (λ c κs. search needs)
     (λ c κs. search needs)
     (λ c κs. search needs)
+    (λ c. search needs)
     returns-3
+    (λ c. search needs)
     returns-4
+    (λ c. search needs)
     returns-5)
