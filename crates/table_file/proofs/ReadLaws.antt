@@ -26,7 +26,7 @@ use Rattle.table.specs.Check.{inRange, has}
 use Rattle.table.specs.Seen.{keyOf, suspect, noted, Marked}
 use Rattle.table_file.specs.File.{headIn, readFile, machine, stopped, Scan, answerOf, given, IntoOutcome, bodyIn, rowIn, frameIn, Listed, found, refused}
 use Rattle.table_file.specs.File.{onCounted, ended, onChecked, admission, admitted, rowsFrom, finishOf}
-use Rattle.table_file.specs.Records.{recordAt, recorded, admitOf, Next, Admitted, RowsOutcome, Scanned}
+use Rattle.table_file.specs.Records.{recordAt, recorded, admitOf, Next, Admitted, RowsOutcome, Kept, Scanned}
 use Rattle.table.proofs.RefusalLaws.{refusal-some}
 use Rattle.table.proofs.RowLaws.{put-near, length-listed, listed-more}
 use Rattle.table.proofs.SeenLaws.{marked-listed, marked-not, marked-next}
@@ -54,16 +54,9 @@ module _ (states at : ℕ) (rest : List ℕ) (ts : List Transition) where
   unfolding rowsFrom
   rows-took room r e = rw e
 
--- n records were taken, and the scan from here on is the scan of the whole
-pub record Kept (file : List ℕ) (states n at : ℕ) : Type 0 where
-  pub few : n ≤ 256
-  pub place : at ≡ 8 + n * 18
-  pub inside : at ≤ length file
-  pub same : rowsFrom (256 - n) states at (drop at file) (recorded file n) ≡ rowsFrom 256 states 8 (drop 8 file) []
-
-pub kept-start : (file : List ℕ) (states : ℕ) → 8 ≤ length file → Kept file states 0 8
+pub kept-start : (file seen : List ℕ) (states : ℕ) → 8 ≤ length file → Marked seen (recorded file 0) → Kept file seen states 0 8
 unfolding listed
-kept-start file states h = record { few = omega arith; place = refl; inside = h; same = refl }
+kept-start file seen states h m = record { few = omega arith; place = refl; inside = h; marked = m; same = refl }
 
 -- a transition stands at the offset, after n others
 pub record TookAfter (file : List ℕ) (n at : ℕ) (r : Row) : Type 0 where
@@ -119,6 +112,11 @@ module _ (states at n : ℕ) (met : Bool) (t : Transition) where
   admit-full-says : (x : Refusal) → 256 ≤ n → Refused x ≡ admitOf states at n met t → x ≡ Full at
   admit-full-says x h e = let f : Refused x ≡ Refused (Full at) = e ∙ sym (admit-full h) in cc
 
+-- the code looks for what stands in record n
+pub own-has : (l : List ℕ) (n at : ℕ) (t : Row) {seen : List ℕ} → Next l seen n at t → {b : Bool} → b ≡ has (said (recordAt l n)) (recorded l n)
+    → b ≡ has (said t) (recorded l n)
+own-has l n at t next e = e ∙ ap (λ (r : Row). has (said r) (recorded l n)) (sym (next .is))
+
 -- the ways out of the test of one transition
 module _ (l : List ℕ) (states at n : ℕ) (t : Row) {seen : List ℕ} (next : Next l seen n at t) (seen' : List ℕ) where
   refusal-marks : {r : Refusal} → Refused r ≡ Sound → Marked seen' (recorded l (n + 1))
@@ -152,7 +150,7 @@ module _ (l : List ℕ) (states at n : ℕ) (t : Row) {seen : List ℕ} (next : 
         pub admitted-unmarked : {b : Bool} → b ≡ suspect seen key → b ≡ false → Admitted l states at n t Sound seen'
         admitted-unmarked e f = admitted-new (marked-not (next .marked) (said t) own e f)
 
-module _ (file : List ℕ) (states n at : ℕ) (k : Kept file states n at) where
+module _ (file : List ℕ) {seen : List ℕ} (states n at : ℕ) (k : Kept file seen states n at) where
   abbrev rest : List ℕ
   rest = drop at file
 
@@ -195,15 +193,16 @@ module _ (file : List ℕ) (states n at : ℕ) (k : Kept file states n at) where
       rw (room, rows-full states at rest ts r e, admit-full-says states at n (has (said r) ts) (said r) x (omega arith) q))
 
   -- a transition that was admitted: the scan goes on behind it
-  pub kept-more : (r : Row) → TookAfter file n at r → Sound ≡ admitOf states at n (has (said r) ts) (said r) → Kept file states (n + 1) (at + 18)
-  kept-more r t a =
+  pub kept-more : (r : Row) → TookAfter file n at r → Sound ≡ admitOf states at n (has (said r) ts) (said r)
+      → {seen' : List ℕ} → Marked seen' (recorded file (n + 1)) → Kept file seen' states (n + 1) (at + 18)
+  kept-more r t a w =
       let h : n < 256 = admit-few states at n (has (said r) ts) (said r) a in
       let s = admit-says states at n (has (said r) ts) (said r) h a in
       let room : 256 - n ≡ suc (256 - (n + 1)) = omega arith in
       let d : drop 18 rest ≡ drop (at + 18) file = drop-drop 18 at file in
       let m : recorded file (n + 1) ≡ ts ++ (said r ∷ []) = listed-more (λ i. said (recordAt file i)) n ∙ ap (λ (r : Row). ts ++ (said r ∷ [])) (sym (t .row)) in
       let step = rw (room, rows-took states at rest ts (256 - (n + 1)) r (t .is), s .0, s .1, d) at (k .same) in
-      record { few = omega arith; place = omega (arith, k .place); inside = t .inside; same = rw m step }
+      record { few = omega arith; place = omega (arith, k .place); inside = t .inside; marked = w; same = rw m step }
 
 -- what the head and the records give together
 pub read-shut : (l : List ℕ) (r : Refusal) → headIn l ≡ Shut r → readFile l ≡ stopped (refusalNumber r) (refusalPlace r)

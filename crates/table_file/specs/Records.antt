@@ -2,7 +2,7 @@
 use mathlib.Core.Path.{_≡_}
 use mathlib.Core.Bool.{Bool, cond}
 use mathlib.Core.List.{List, []}
-use Prim.Native.Nat.{ℕ, _+_, _*_, _≤_}
+use Prim.Native.Nat.{ℕ, _+_, _*_, _-_, _≤_}
 use lib.Dec.{leb}
 use lib.ListN.{length, drop}
 use Rattle.model.specs.Table.{Transition}
@@ -12,6 +12,8 @@ use Rattle.table.specs.declared.Checked.{Checked}
 use Rattle.table.specs.declared.Checked.the-variants.{Sound, Refused}
 use Rattle.table_file.specs.declared.Counted.{Counted}
 use Rattle.table_file.specs.declared.Counted.the-variants.{Count, Stop}
+use Rattle.table_file.specs.declared.Taken.{Taken}
+use Rattle.table_file.specs.declared.Taken.the-variants.{More, Ends}
 use Rattle.table_file.specs.declared.FileRead.{FileRead}
 use Rattle.table.specs.Refusal.{refusalNumber, refusalPlace}
 use Rattle.table.specs.Rows.{said, listed}
@@ -47,6 +49,19 @@ pub record Admitted (l : List ℕ) (states offset n : ℕ) (t : Row) (a : Checke
 abbrev pub RowsOutcome : ℕ → List ℕ → Counted → Type 0
 RowsOutcome states l (Count n) = (rowsFrom 256 states 8 (drop 8 l) [] ≡ found (recorded l n)) × (n ≤ 256) × (8 + n * 18 ≤ length l)
 RowsOutcome states l (Stop r) = rowsFrom 256 states 8 (drop 8 l) [] ≡ refused (refusalNumber r) (refusalPlace r)
+
+-- n records were taken and marked, and the scan from the offset on is the scan of the whole
+pub record Kept (l seen : List ℕ) (states n offset : ℕ) : Type 0 where
+  pub few : n ≤ 256
+  pub place : offset ≡ 8 + n * 18
+  pub inside : offset ≤ length l
+  pub marked : Marked seen (recorded l n)
+  pub same : rowsFrom (256 - n) states offset (drop offset l) (recorded l n) ≡ rowsFrom 256 states 8 (drop 8 l) []
+
+-- what the next record leads to: one more is taken, or the loop's answer stands
+abbrev pub TakenOutcome : ℕ → List ℕ → List ℕ → ℕ → ℕ → Taken → Type 0
+TakenOutcome states l seen n offset More = Kept l seen states (n + 1) (offset + 18)
+TakenOutcome states l seen n offset (Ends c) = RowsOutcome states l c
 
 -- what a file was found to be: its records are within it, or none is counted
 pub record Scanned (l : List ℕ) (r : FileRead) : Type 0 where

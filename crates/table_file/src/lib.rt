@@ -45,6 +45,12 @@ pub(crate) enum Counted {
     Stop(Refusal),
 }
 
+// What a record leads to: the one behind it, or the end of the reading.
+pub(crate) enum Taken {
+    More,
+    Ends(Counted),
+}
+
 pub enum Written {
     Bytes(usize),
     Refused(Refusal),

@@ -3,6 +3,7 @@ use crate::Counted;
 use crate::FileRead;
 use crate::Frame;
 use crate::Opening;
+use crate::Taken;
 use table::Cells;
 use table::Checked;
 use table::Refusal;
@@ -10,17 +11,16 @@ use table::Row;
 use table::head_fine;
 use table::ranges::in_range;
 use table::rows::put_row;
-use table::rows::same_row;
 use table::seen::mark;
 use table::seen::mixed;
 ghost use mathlib.Core.Path.{_≡_};
 ghost use Prim.Native.Nat.{_+_, _*_, _≤_};
 ghost use lib.ListN.{length, drop};
 ghost use Rattle.table.specs.Rows.{said, putAll};
-ghost use Rattle.table.specs.Check.{has};
+ghost use Rattle.table.specs.Check.{same, has};
 ghost use Rattle.table.specs.Seen.{keyOf};
 ghost use Rattle.table_file.specs.File.{rowIn, frameIn, openedIn, headIn, finishOf};
-ghost use Rattle.table_file.specs.Records.{recordAt, recorded, Next, Admitted, RowsOutcome, Scanned};
+ghost use Rattle.table_file.specs.Records.{recordAt, recorded, Next, Admitted, RowsOutcome, Kept, TakenOutcome, Scanned};
 
 // What a refused file gives: one state and no transitions.
 fn refused(r: Refusal) -> FileRead
@@ -128,14 +128,43 @@ fn record_at(file: &[u8], i: usize) -> Row
     fields(&file[at + 4..at + 18])
 }
 
-// Whether a transition is in one of the first n records.
-fn has_record(file: &[u8], n: usize, t: Row) -> bool
-    requires { ⌜ 8 + n * 18 ≤ length (now file) ⌝ }
-    ensures { λ b. ⌜ b ≡ has (said t) (recorded (now (file .entry)) n) ⌝ }
+// Whether two bodies hold one transition, by few and wide reads.
+fn same_body(a: &[u8], b: &[u8]) -> bool
+    ensures { λ r. ⌜ r ≡ same (said (rowIn (now (a .entry)))) (said (rowIn (now (b .entry)))) ⌝ }
+{
+    if wire::four(a, 0) != wire::four(b, 0) {
+        return false;
+    }
+    if wire::four(a, 4) != wire::four(b, 4) {
+        return false;
+    }
+    if wire::four(a, 8) != wire::four(b, 8) {
+        return false;
+    }
+    if wire::two(a, 12) != wire::two(b, 12) {
+        return false;
+    }
+    true
+}
+
+// Whether two records hold one transition.
+fn same_record(file: &[u8], i: usize, j: usize) -> bool
+    requires { ⌜ (8 + i * 18 + 18 ≤ length (now file)) × (8 + j * 18 + 18 ≤ length (now file)) ⌝ }
+    ensures { λ b. ⌜ b ≡ same (said (recordAt (now (file .entry)) i)) (said (recordAt (now (file .entry)) j)) ⌝ }
+{
+    let a = 8 + i * 18;
+    let b = 8 + j * 18;
+    same_body(&file[a + 4..a + 18], &file[b + 4..b + 18])
+}
+
+// Whether the transition in record n is in one before it.
+fn has_record(file: &[u8], n: usize) -> bool
+    requires { ⌜ 8 + n * 18 + 18 ≤ length (now file) ⌝ }
+    ensures { λ b. ⌜ b ≡ has (said (recordAt (now (file .entry)) n)) (recorded (now (file .entry)) n) ⌝ }
 {
     let mut i: usize = 0;
     while i < n {
-        if same_row(record_at(file, i), t) {
+        if same_record(file, i, n) {
             return true;
         }
         i += 1;
@@ -167,11 +196,30 @@ fn admit(file: &[u8], seen: &mut [u8], states: u16, n: usize, at: usize, t: Row)
         return Checked::Refused(Refusal::OutOfRange(at));
     }
     if mark(seen, key_in(&file[at + 4..at + 18])) {
-        if has_record(file, n, t) {
+        if has_record(file, n) {
             return Checked::Refused(Refusal::Repeated(at));
         }
     }
     Checked::Sound
+}
+
+// The record at an offset, after n transitions. Matched on in the loop itself, the last transition would be carried from turn to turn.
+fn take_record(file: &[u8], seen: &mut [u8], states: u16, n: usize, at: usize) -> Taken
+    requires { ⌜ Kept (now file) (now seen) states n at ⌝ }
+    ensures { λ r. ⌜ TakenOutcome states (now (file .entry)) (now (seen .exit)) n at r ⌝ }
+{
+    let f = frame(file, at);
+    match f {
+        Frame::Bad(r) => Taken::Ends(Counted::Stop(r)),
+        Frame::Last => Taken::Ends(finish(file, at, n)),
+        Frame::Took(t) => {
+            let a = admit(file, seen, states, n, at, t);
+            if let Checked::Refused(r) = a {
+                return Taken::Ends(Counted::Stop(r));
+            }
+            Taken::More
+        }
+    }
 }
 
 // The records after the head, by marks.
@@ -182,23 +230,12 @@ fn rows_by(file: &[u8], states: u16, seen: &mut [u8]) -> Counted
     let mut at: usize = 8;
     let mut n: usize = 0;
     loop {
-        let f = frame(file, at);
-        match f {
-            Frame::Bad(r) => {
-                return Counted::Stop(r);
-            }
-            Frame::Last => {
-                return finish(file, at, n);
-            }
-            Frame::Took(t) => {
-                let a = admit(file, seen, states, n, at, t);
-                if let Checked::Refused(r) = a {
-                    return Counted::Stop(r);
-                }
-                n += 1;
-                at += 18;
-            }
+        let taken = take_record(file, seen, states, n, at);
+        if let Taken::Ends(c) = taken {
+            return c;
         }
+        n += 1;
+        at += 18;
     }
 }
 

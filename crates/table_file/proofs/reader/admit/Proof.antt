@@ -5,7 +5,7 @@ use mathlib.Core.Path.{_≡_, sym, _∙_}
 use mathlib.Core.Bool.{true}
 use Rattle.table.specs.Rows.{said}
 use Rattle.table.specs.Check.{inRange}
-use Rattle.table_file.proofs.ReadLaws.{admitted-full, admitted-range, admitted-twin, admitted-new, admitted-unmarked}
+use Rattle.table_file.proofs.ReadLaws.{own-has, admitted-full, admitted-range, admitted-twin, admitted-new, admitted-unmarked}
 use Rattle.table_file.proofs.reader.admit.Statement.{statement}
 use Rattle.table_file.proofs.reader.admit.Tie as tie
 
@@ -32,7 +32,7 @@ returns-3 c =
     let s = p .before .before .before .before .before in
     let a = s .args in
     admitted-twin (a .file .now) (a .states) (a .at) (a .n) (a .t) (s .pre) _ (p .before .before .if1 .left) (ranged p)
-    (sym (c .before .has-record .ensures) ∙ c .if4 .taken)
+    (sym (own-has (a .file .now) (a .n) (a .at) (a .t) (s .pre) (c .before .has-record .ensures)) ∙ c .if4 .taken)
 
 returns-4 : tie.Need-returns-4
 returns-4 c =
@@ -41,7 +41,7 @@ returns-4 c =
     let s = p .before .before .before .before .before in
     let a = s .args in
     admitted-new (a .file .now) (a .states) (a .at) (a .n) (a .t) (s .pre) _ (p .before .before .if1 .left) (ranged p)
-    (m .before .key-in .ensures) (m .mark .ensures .1) (sym (c .before .has-record .ensures) ∙ c .if4 .left)
+    (m .before .key-in .ensures) (m .mark .ensures .1) (sym (own-has (a .file .now) (a .n) (a .at) (a .t) (s .pre) (c .before .has-record .ensures)) ∙ c .if4 .left)
 
 returns-5 : tie.Need-returns-5
 returns-5 c =
