@@ -1,12 +1,10 @@
 -- What was shown decides the machine.
-use mathlib.Core.Path.{_≡_, refl, sym, ap, _∙_}
-use mathlib.Core.Logic.{inl}
+use mathlib.Core.Path.{_≡_, refl, ap}
 use mathlib.Core.List.{List, [], _∷_}
 use Prim.Native.Nat.{ℕ, suc, _+_, _≤_, _<_}
 use native.Mathlib.Numerals.{add-one}
 use native.Mathlib.Omega.{arith}
-use lib.ListN.{length, getD, List·getD-append}
-use lib.Seq.{getD-append-seam}
+use lib.ListN.{length}
 use Rattle.model.specs.Answers.{fields}
 use Rattle.model.specs.Lists.{LeastPair}
 use Rattle.model.specs.Table.{Transition, Machine, Valid, at}
@@ -17,11 +15,6 @@ use Rattle.model.proofs.Words.{words-show}
 use Rattle.model.proofs.Split.{pair-shown, shown-splits, split-law}
 use Rattle.model.proofs.Turn.{turns-from-law, table-walk-law, turns-overtakes}
 use Rattle.table.specs.declared.Table.{Table}
-use Rattle.table.specs.declared.Refusal.{Refusal}
-use Rattle.table.specs.declared.Refusal.the-variants.{NoRoom}
-use Rattle.table.specs.declared.Checked.{Checked}
-use Rattle.table.specs.declared.Checked.the-variants as checked
-use Rattle.table.specs.Refusal.{checkedFields}
 use Rattle.table.specs.Rows.{rows, machineOf}
 use Rattle.table.specs.Fit.{Sound}
 use Rattle.table.specs.Tests.{Test, unless, refuses, answers}
@@ -36,12 +29,10 @@ use Rattle.split_pair.proofs.SplitLaws.{split-found}
 use Rattle.split_pair.proofs.ApartLaws.{apart-unsplit}
 use Rattle.neighbours.proofs.NeighbourLaws.{calm-keeps}
 use Rattle.criterion.specs.declared.Goal.the-variants.{Turns}
-use Rattle.witness.specs.declared.Witness.{Witness}
-use Rattle.witness.specs.declared.Witness.the-variants.{Shown}
-use Rattle.witness.specs.Witness.{wayFor, machineWith, WitnessOutcome}
+use Rattle.witness.specs.Witness.{wayFor, machineWith}
 use Rattle.witness.proofs.WitnessLaws.{words-nothing, words-stand, shows-lowest}
 use Rattle.table_verdict.specs.declared.OnTable.{OnTable}
-use Rattle.table_verdict.specs.declared.OnTable.the-variants.{Strict as StrictTable, Turning, Refused}
+use Rattle.table_verdict.specs.declared.OnTable.the-variants.{Turning}
 use Rattle.table_verdict.specs.OnTable.{tableFields, split-shown, turning-shown, TableOutcome}
 use Rattle.table_verdict.specs.Plain.{Plain}
 use Rattle.table_verdict.specs.Shown.{ShowRoom, SplitStands}

@@ -1,7 +1,6 @@
 -- What is not named follows from the arithmetic around it.
 use borrow.Author.Needs.{needs}
 use native.Mathlib.Omega.{arith}
-use Rattle.table.specs.Rows.{rows}
 use Rattle.neighbours.proofs.NeighbourLaws.{low-none, calm-told}
 use Rattle.neighbours.proofs.calm.Statement.{statement}
 use Rattle.neighbours.proofs.calm.Tie as tie

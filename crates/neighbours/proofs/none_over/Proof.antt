@@ -5,7 +5,7 @@ use native.Mathlib.Omega.{arith}
 use mathlib.Core.Path.{_≡_, ap, _∙_}
 use mathlib.Core.Bool.{true}
 use Prim.Native.Nat.{_≤_, _-_}
-use Rattle.model.specs.Table.{Transition, at}
+use Rattle.model.specs.Table.{at}
 use Rattle.table.specs.Rows.{rows, said}
 use Rattle.table.proofs.RowLaws.{row-known}
 use Rattle.neighbours.specs.Neighbours.{NoneOver}

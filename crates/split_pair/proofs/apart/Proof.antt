@@ -1,8 +1,8 @@
 -- The loop keeps that the places of the transitions passed, each another, are those taken.
 use borrow.Author.Needs.{needs}
 use native.Mathlib.Omega.{arith}
-use mathlib.Core.Path.{_≡_, sym, ap, _∙_}
-use Prim.Native.Nat.{ℕ, _≤_, _<_, _-_}
+use mathlib.Core.Path.{_≡_, ap, _∙_}
+use Prim.Native.Nat.{_≤_, _-_}
 use Rattle.model.specs.Table.{at}
 use Rattle.table.specs.Rows.{rows, said}
 use Rattle.table.proofs.RowLaws.{row-known}
