@@ -1,4 +1,5 @@
 pub mod Letters
+pub mod Next
 pub mod Kept
 pub mod Runs
 pub mod Rows
