@@ -349,7 +349,20 @@
     VARIANT(PLAYER_LETTER_8_BITS, "player: an output names 8 bits of a letter") \
     VARIANT(PLAYER_LETTER_UNNAMED, "player: an output names no letter") \
     VARIANT(PLAYER_WAITING_NAMED, "player: an output names how many wait") \
-    VARIANT(PLAYER_DOES_NOTHING, "player: useless: says played to all and changes nothing")
+    VARIANT(PLAYER_DOES_NOTHING, "player: useless: says played to all and changes nothing") \
+    VARIANT(PLAYER_SAYS_SIDE, "player: refuses an input to which no transition is open with 9 or 12") \
+    VARIANT(WORDS_MARK_SIDE, "words: sets the highest bit of a mark where the step is late") \
+    VARIANT(GUARD_SWAPPED, "guard: says early of a late gap and late of an early one") \
+    VARIANT(GUARD_ALL_9, "guard: says early of every gap outside") \
+    VARIANT(GUARD_ALL_12, "guard: says late of every gap outside") \
+    VARIANT(GUARD_U_LATE, "guard: takes a gap of exactly u for late") \
+    VARIANT(GUARD_0_LATE, "guard: takes a gap of 0 for late") \
+    VARIANT(GUARD_V_EARLY, "guard: takes a gap of v and 1/256 for early") \
+    VARIANT(GUARD_RAW, "guard: compares raw stamps: one below the stamp before is early") \
+    VARIANT(GUARD_SIGNED, "guard: takes a gap of half a turn and more for a step back: early") \
+    VARIANT(GUARD_EARLY_FIRST, "guard: names the first early step, and a late one only if none is early") \
+    VARIANT(GUARD_LATE_FIRST, "guard: names the first late step, and an early one only if none is late") \
+    VARIANT(GUARD_BY_LAST, "guard: names the first step outside, but says early or late of the last")
 
 #define SANDGUSSET_VARIANT_OF_TRACE(VARIANT, name, what) VARIANT(TRACE_##name, "trace: " what)
 #define SANDGUSSET_VARIANT_OF_TABLE(VARIANT, name, what) VARIANT(TABLE_##name, "table: " what)

@@ -48,7 +48,7 @@ static unsigned host_output(const uint8_t *file, size_t file_bytes, unsigned num
 
 /* ---- Refusals ---- */
 
-/* The place is a byte of the file for 1 to 5, a step for 9, and else 0. */
+/* The place is a byte of the file for 1 to 5, a step for 9 and 12, and else 0. */
 static void host_print_refusal(FILE *to, uint64_t answer)
 {
     unsigned number = sandgusset_status(answer);

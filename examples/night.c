@@ -4,7 +4,8 @@
    every further line is a word, its start stamp and a stamp for each step, in 1/256 tick. Blank lines are left out.
 
    Of each word it prints the steps in the order of their responses with their due times, in ticks since its start;
-   or the first step outside its guard. It is built as host.c is.
+   or the first step outside its guard, and by a replay of that word alone whether it is early or late. It is built as
+   host.c is.
    Status: 0 the words were played, 1 they were refused, 2 anything else. */
 
 #include <errno.h>
@@ -62,6 +63,17 @@ static size_t night_line(FILE *text, uint32_t numbers[NIGHT_NUMBERS])
     return count;
 }
 
+/* Whether the step that word w was refused by came early or late: a mark names the step alone, the replay of the word by
+   itself is refused with 9 or 12. */
+static const char *night_side(size_t length, size_t steps, size_t w)
+{
+    uint64_t answer = sandgusset_replay(file, length, trace, 2 * steps, sandgusset_get32(starts, w),
+                                        stamps + 4 * w * steps, 4 * steps,
+                                        order + 2 * w * steps, 2 * steps, due + 4 * w * steps, 4 * steps);
+
+    return sandgusset_status(answer) == SANDGUSSET_EARLY ? "early" : "late";
+}
+
 int main(int argc, char **argv)
 {
     uint32_t numbers[NIGHT_NUMBERS];
@@ -90,7 +102,7 @@ int main(int argc, char **argv)
         unsigned mark = sandgusset_get16(marks, w);
         printf("word %u:", (unsigned)w + 1);
         if (mark != 0)
-            printf(" step %u outside its guard", mark);
+            printf(" step %u is %s", mark, night_side(length, steps, w));
         for (j = w * steps; mark == 0 && j < (w + 1) * steps; j++)
             printf("%s %u at %.3f", j > w * steps ? "," : "", sandgusset_get16(order, j), sandgusset_get32(due, j) / 256.0);
         printf("\n");

@@ -40,17 +40,19 @@
  *   7  the stamps: not as many as steps, of all words together, or not a multiple of four bytes; or the start stamps of
  *      words: more than 256, or not a multiple of four bytes
  *   8  a lent room is too short
- *   9  a gap outside its guard
+ *   9  a gap is early: at most u
  *  10  the player: no transition is open to this input
  *  11  the player: not now: time would pass the next due response, no response is due for an output, or one is due at an
  *      input
+ *  12  a gap is late: more than v
  *  13  the player: the table is split
  *  14  the player: a 513th input
  *  15  the player: the configuration is damaged, or an input would make 241 responses wait
  *   For 1 to 5 the place (first) is the offset in the file of the refused record, or of the first byte after the end
- *   record. For 9 it is the first such step, counted from 1. For all others it is 0. The file is tested first, then
- *   6, 7, 8 and 9 in this order, as far as they apply to the call. sandgusset_replay_words is never refused with 9: it
- *   marks each such word. The player has an order of its own (see THE PLAYER). 12 is not given.
+ *   record. For 9 and 12 it is the first step whose gap is outside its guard, counted from 1; that step decides which of
+ *   the two is given. For all others it is 0. The file is tested first, then 6, 7, 8, and last 9 or 12, as far as they
+ *   apply to the call. sandgusset_replay_words is never refused with 9 or 12: it marks each such word. The player says 10
+ *   of both, and has an order of its own (see THE PLAYER).
  *
  * THE TABLE FILE
  *   Records: two bytes of length (counting all that follow them), two bytes of kind, the body, all in numbers of two
@@ -112,10 +114,10 @@ extern "C" {
 #endif
 
 /* The version: a minor one adds calls and numbers, a major one changes what a call means (CHANGELOG.md). */
-#define SANDGUSSET_VERSION "2.1.1"
-#define SANDGUSSET_VERSION_MAJOR 2
-#define SANDGUSSET_VERSION_MINOR 1
-#define SANDGUSSET_VERSION_PATCH 1
+#define SANDGUSSET_VERSION "3.0.0"
+#define SANDGUSSET_VERSION_MAJOR 3
+#define SANDGUSSET_VERSION_MINOR 0
+#define SANDGUSSET_VERSION_PATCH 0
 
 /* Values of the status field. */
 #define SANDGUSSET_DONE 0           /* strict, in order, steady, replayed, written or played */
@@ -133,9 +135,10 @@ extern "C" {
 #define SANDGUSSET_BAD_TRACE 6      /* first: 0 */
 #define SANDGUSSET_BAD_STAMPS 7     /* first: 0 */
 #define SANDGUSSET_NO_ROOM 8        /* first: 0 */
-#define SANDGUSSET_BAD_GAP 9        /* first: the step, counted from 1 */
+#define SANDGUSSET_EARLY 9          /* first: the step, counted from 1 */
 #define SANDGUSSET_NOT_OPEN 10      /* first: 0 */
 #define SANDGUSSET_NOT_NOW 11       /* first: 0 */
+#define SANDGUSSET_LATE 12          /* first: the step, counted from 1 */
 #define SANDGUSSET_SPLIT_TABLE 13   /* first: 0 */
 #define SANDGUSSET_INPUTS_OVER 14   /* first: 0 */
 #define SANDGUSSET_BAD_CONFIG 15    /* first: 0 */
@@ -225,7 +228,7 @@ uint64_t sandgusset_judge_trace(const uint8_t *file, size_t file_len,
                                 const uint8_t *trace, size_t trace_len,
                                 uint8_t *stamps, size_t stamps_len);
 
-/* Replays stamps on a trace: in which order do the responses come? Refusals: 1 to 5, 6, 7, 8, 9.
+/* Replays stamps on a trace: in which order do the responses come? Refusals: 1 to 5, 6, 7, 8, 9, 12.
  *
  * start is the stamp from which the first gap counts. Lend one place of two bytes per step in order and one place of
  * four bytes per step in due.
@@ -340,9 +343,10 @@ static inline const char *sandgusset_text(unsigned status)
     case SANDGUSSET_BAD_TRACE: return "the trace is empty, too long, of odd length, not joined, or names no transition";
     case SANDGUSSET_BAD_STAMPS: return "the number of stamps differs from the number of steps, or there are more than 256 words";
     case SANDGUSSET_NO_ROOM: return "the lent room is too short";
-    case SANDGUSSET_BAD_GAP: return "a gap outside its guard";
+    case SANDGUSSET_EARLY: return "a gap is early: at most u of its guard";
     case SANDGUSSET_NOT_OPEN: return "no transition is open to this input";
     case SANDGUSSET_NOT_NOW: return "not now: a response is due first, or none is due";
+    case SANDGUSSET_LATE: return "a gap is late: more than v of its guard";
     case SANDGUSSET_SPLIT_TABLE: return "the table is split";
     case SANDGUSSET_INPUTS_OVER: return "more than 512 inputs";
     case SANDGUSSET_BAD_CONFIG: return "the configuration is damaged, or 241 responses would wait";

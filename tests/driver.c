@@ -234,7 +234,7 @@ static int check_helpers(void)
     if (b[3] != 0x12 || b[4] != 0xEF || b[5] != 0xCD || b[6] != 0xAB || b[7] != 0x89 || b[8] != 0xEE ||
         sandgusset_get32(b, 1) != 0x89ABCDEFu)
         return 0;
-    return sandgusset_refused(1) && sandgusset_refused(9 | (uint64_t)3 << 16) && !sandgusset_refused(0) &&
+    return sandgusset_refused(1) && sandgusset_refused(SANDGUSSET_EARLY | (uint64_t)3 << 16) && sandgusset_refused(SANDGUSSET_LATE) && !sandgusset_refused(0) &&
            !sandgusset_refused(SANDGUSSET_SPLIT) && !sandgusset_refused(SANDGUSSET_TURNING) &&
            !sandgusset_refused(SANDGUSSET_OVERTAKEN);
 }

@@ -527,8 +527,13 @@ def verdict_on(call, data, table):
     return VERDICTS[call, data]
 
 
+def side(gap, row):
+    """Document 02, R-6: 9 if a gap in 1/256 tick is early, at most u; 12 if it is late, more than v; else 0."""
+    return 9 if gap <= 256 * row[U] else 12 if gap > 256 * row[V] else 0
+
+
 def replay(rows, start, stamps, order, due):
-    """Document 01's replay on a trace: the answer, and what order and due hold then."""
+    """Document 01's replay on a trace, with R-6's early and late: the answer, and what order and due hold then."""
     n = len(rows)
     if stamps.length != 4 * n:
         return pack(7), order.data, due.data
@@ -537,8 +542,11 @@ def replay(rows, start, stamps, order, due):
     numbers = u32s(stamps.data, n)
     gaps = [(b - a) % TURN for a, b in zip([start] + numbers, numbers)]
     for j, (g, r) in enumerate(zip(gaps, rows), 1):
-        if not activates([g], [r], 256):
-            return pack(9, j), order.data, due.data
+        number = side(g, r)
+        if (number == 0) != activates([g], [r], 256):
+            raise Disagreement("a gap %d and a guard (%d,%d]" % (g, r[U], r[V]))
+        if number:
+            return pack(number, j), order.data, due.data
     found = responses(gaps, rows, 256)
     return (pack(0), put(order.data, struct.pack("<%dH" % n, *(step for _, step in found))),
             put(due.data, struct.pack("<%dI" % n, *(at for at, _ in found))))
@@ -1996,6 +2004,52 @@ def words_answered(rng):
                 exactly(pack(0, 3), order=u16(1, 2, 2, 1, 1, 2), due=u32(3072, 3072, 3071, 3072, 3072, 3073)))
 
 
+# Document 02, R-6: for each step of the whole case, (5,20], (15,20] and (10,15], a gap inside, an early one and a late one.
+SIDES = {0: (3840, 4352, 2816), 9: (1280, 3840, 2560), 12: (5121, 5121, 3841)}
+
+
+def guard_ends(rng):
+    """Gaps at and next to both ends of a guard, none, and those that only the counter's turn makes: from starts of all sorts."""
+    for u, v in ((1, 2), (5, 20), (1, 4095), (4094, 4095)):
+        table = Table(2, 0, [(0, 0, 1, 1, u, v, 7)])
+        for start in (0, 1, 256 * u, 256 * v + 1, TURN - 256 * v, TURN - 256 * u, TURN - 1, TURN // 2):
+            for gap in (0, 1, 256 * u - 1, 256 * u, 256 * u + 1, 256 * v - 1, 256 * v, 256 * v + 1, TURN // 2 - 1,
+                        TURN // 2, TURN - 256 * v, TURN - 256 * u, TURN - 1):
+                number = 9 if gap <= 256 * u else 12 if gap > 256 * v else 0
+                yield played_case(rng, "guard: (%d,%d], gap %d from start %d: %s" % (
+                    u, v, gap, start, {0: "inside", 9: "early", 12: "late"}[number]), table, (0,), ((start + gap) % TURN,), start,
+                    pack(number, 1) if number else pack(0))
+
+
+def guard_steps(rng):
+    """The first step outside its guard decides whether it is early or late, in a word alone and in a night, whose marks name
+    the step alone."""
+    three, all_ways = (0, 1, 2), list(itertools.product((0, 9, 12), repeat=3))
+    words = [[SIDES[number][j] for j, number in enumerate(way)] for way in all_ways]
+    first = [next(((number, j) for j, number in enumerate(way, 1) if number), (0, 0)) for way in all_ways]
+    for start in (0, TURN - 5000):
+        for gaps, way, found in zip(words, all_ways, first):
+            yield played_case(rng, "guard: steps %d, %d and %d from start %d" % (*way, start), WHOLE, three, stamps_of(gaps, start),
+                              start, pack(*found))
+        yield night(rng, "early and late steps from start %d" % start, WHOLE, three, [from_start(start, gaps) for gaps in words],
+                    exactly(pack(0, 27), marks=u16(*(j for _, j in first))))
+    yield played_case(rng, "guard: one part back is late", WHOLE, three, (3840, 3839, 8000), pinned=pack(12, 2))
+    yield played_case(rng, "guard: no time between two steps is early", WHOLE, three, (3840, 3840, 8000), pinned=pack(9, 2))
+    yield played_case(rng, "guard: a lower stamp across the wrap is inside", WHOLE, three,
+                      ((3840 - 6000) % TURN, 2192, 5008), (-6000) % TURN, exactly(pack(0), order=u16(3, 1, 2)))
+    yield played_case(rng, "guard: a lower stamp across the wrap is early", WHOLE, three,
+                      ((3840 - 5000) % TURN, 2680, 3000), (-5000) % TURN, pack(9, 2))
+    yield played_case(rng, "guard: a lower stamp across the wrap is late", WHOLE, three,
+                      ((3840 - 5000) % TURN, 5000, 8000), (-5000) % TURN, pack(12, 2))
+    for number in (9, 12):
+        stamps = u32(*stamps_of(SIDES[number]))
+        for lacking, answer in (("a stamp", 7), ("room for the order", 8), ("room for due times", 8)):
+            yield Case(REPLAY, [write_file(WHOLE), u16(*three), stamps[:8] if lacking == "a stamp" else stamps,
+                                rng.randbytes(5 if "order" in lacking else 6), rng.randbytes(11 if "due" in lacking else 12)],
+                       name="guard: %s steps and %s too little: %d" % ("early" if number == 9 else "late", lacking, answer),
+                       pinned=pack(answer))
+
+
 def words_counted(rng):
     """As many words and steps as there may be, and one more."""
     for count in (0, 1, 2, 255, 256, 257):
@@ -2623,7 +2677,7 @@ def fixed_cases():
              pinned=exactly(pack(0), order=u16(1, 3, 2), due=u32(12800, 13056, 14592)))
     replayed("replay at 3840, 8192, 11008: order 3, 1, 2", whole, (0, 1, 2), (3840, 8192, 11008),
              pinned=exactly(pack(0), order=u16(3, 1, 2), due=u32(13568, 14080, 15872)))
-    replayed("first stamp 5888: refusal 9, step 1", whole, (0, 1, 2), (5888, 10240, 14080), pinned=pack(9, 1))
+    replayed("first stamp 5888: refusal 12, step 1", whole, (0, 1, 2), (5888, 10240, 14080), pinned=pack(12, 1))
     for difference, turns in ((-2, 0), (0, 0), (3, 0), (6, 0), (4, 1), (5, 1)):
         two = two_steps(difference)
         name = "second guard (3,5], D = %d: %s" % (difference, "turning" if turns else "steady")
@@ -2795,10 +2849,10 @@ def fixed_cases():
         pinned=pack(1, 44))
 
     # --- gaps, the wrap, ties
-    for gap, refused in ((256, 1), (257, 0), (300, 0), (512, 0), (513, 1), (0, 1), (TURN - 1, 1)):
+    for gap, refused in ((256, 9), (257, 0), (300, 0), (512, 0), (513, 12), (0, 9), (TURN - 1, 12)):
         for start in (0, TURN - 1, TURN - 256, TURN - 257, TURN - 300, TURN - 512, TURN - 513, 2147483647):
             replayed("guard (1,2], gap %d from start %d" % (gap, start), one, (0,), ((start + gap) % TURN,), start,
-                     pack(9, 1) if refused else pack(0))
+                     pack(refused, 1) if refused else pack(0))
     replayed("stamps that wrap between steps", whole, (0, 1, 2), ((3840 - 6000) % TURN, 8192 - 6000, 11008 - 6000),
              (-6000) % TURN, exactly(pack(0), order=u16(3, 1, 2), due=u32(13568, 14080, 15872)))
     replayed("the counter wraps between due times", whole, (0, 1, 2),
@@ -3048,9 +3102,9 @@ def fixed_cases():
         pinned=pack(OVERTAKEN, 1, 3, 3))
     add("order: a file of 2^32 + 66 bytes", ORDER, Buf(file, big + 66), rng.randbytes(540), rng.randbytes(1080),
         pinned=pack(2, 66))
-    for more in (words_answered, words_counted, words_lent, words_refused, letters_throughout, letters_of_traces,
-                 letters_of_tables, letters_and_limits, letters_elsewhere, letters_of_full_tables, player_starts, player_times,
-                 player_inputs, player_outputs, player_damage, player_refused, player_files, player_runs):
+    for more in (words_answered, words_counted, words_lent, words_refused, guard_ends, guard_steps, letters_throughout,
+                 letters_of_traces, letters_of_tables, letters_and_limits, letters_elsewhere, letters_of_full_tables, player_starts,
+                 player_times, player_inputs, player_outputs, player_damage, player_refused, player_files, player_runs):
         cases += more(rng)
     # what the documents have and what has a name first
     return sorted(cases, key=lambda c: c.name.startswith(("whole case cut", "whole case with bit")))

@@ -105,7 +105,7 @@ all-hold =
     all-map computed-holds
     (all-cons (on-source, refl, answers (omega arith) (refl, refl, refl))
     (all-cons (on-source, refl, answers (omega arith) (refl, refl, refl))
-    (all-cons (on-source, refl, refuses refl (inl (omega arith, refl, refl)) (refl, refl))
+    (all-cons (on-source, refl, refuses refl (inr ((λ e. omega arith), inl ((λ n. n ((λ e. omega arith), omega arith)), refl, refl))) (refl, refl))
     (all-cons (on-two _ (omega arith), inl (refl, steady-two _ (omega arith) (λ t. omega arith)))
     (all-cons (on-two _ (omega arith), inl (refl, steady-two _ (omega arith) (λ t. omega arith)))
     (all-cons (on-two _ (omega arith), inl (refl, steady-two _ (omega arith) (λ t. omega arith)))

@@ -93,13 +93,13 @@ onTwo d = judged (two d) (0 ∷ 1 ∷ [])
 abbrev pub whole : Fields
 whole = fields 257 1 3 3
 
--- "refusal 9, step 1" is 9 with the place 1; D is -2, 0, 3, 4, 5, 6 for d 8, 10, 13, 14, 15, 16; the last due time, 652, is the gap 396 and a tick;
+-- "01's source word with first stamp 5888 is late" (02, R-6): 12 with the place 1; D is -2, 0, 3, 4, 5, 6 for d 8, 10, 13, 14, 15, 16; the last due time, 652, is the gap 396 and a tick;
 -- the last seven are the turning cases as they stand, the whole case among them, and with one letter
 abbrev pub cases : List Case
 cases =
     onSource (2560 ∷ 6912 ∷ 10496 ∷ []) fine (1 ∷ 3 ∷ 2 ∷ []) (12800 ∷ 13056 ∷ 14592 ∷ []) ∷
     onSource (3840 ∷ 8192 ∷ 11008 ∷ []) fine (3 ∷ 1 ∷ 2 ∷ []) (13568 ∷ 14080 ∷ 15872 ∷ []) ∷
-    onSource (5888 ∷ 6912 ∷ 10496 ∷ []) (fields 9 1 0 0) [] [] ∷
+    onSource (5888 ∷ 6912 ∷ 10496 ∷ []) (fields 12 1 0 0) [] [] ∷
     onTwo 8 fine ∷
     onTwo 10 fine ∷
     onTwo 13 fine ∷

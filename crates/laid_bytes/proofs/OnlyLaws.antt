@@ -2,6 +2,7 @@
 use mathlib.Core.Path.{_≡_, sym, _∙_}
 use mathlib.Core.List.{List}
 use Prim.Native.Nat.{ℕ}
+use Rattle.model.specs.Answers.{Fields}
 use Rattle.wire.specs.Bytes.{Bytes}
 use Rattle.replay.specs.Laid.{WordRun}
 use Rattle.replay.proofs.OutcomeLaws.{word-run-only}
@@ -9,12 +10,12 @@ use Rattle.laid_bytes.specs.OnPlaces.{OnPlaces}
 use Rattle.laid_bytes.proofs.WholeLaws.{same-bytes}
 
 module _ (cells trace : List ℕ) (start : ℕ) (stamps o₀ d₀ : List ℕ) where
-  abbrev Run : ℕ → List ℕ → List ℕ → Type 0
-  Run mark o d = OnPlaces (λ o₀ d₀ o d. WordRun cells trace start stamps o₀ d₀ mark o d) o₀ d₀ o d
+  abbrev Run : Fields → List ℕ → List ℕ → Type 0
+  Run f o d = OnPlaces (λ o₀ d₀ o d. WordRun cells trace start stamps o₀ d₀ f o d) o₀ d₀ o d
 
-  -- mark, order and due times, each byte of them
-  pub word-only : {k k' : ℕ} {o d o' d' : List ℕ} → Bytes o → Bytes d → Bytes o' → Bytes d' → Run k o d → Run k' o' d'
-      → (k ≡ k') × (o ≡ o') × (d ≡ d')
+  -- answer, order and due times, each byte of them
+  pub word-only : {f g : Fields} {o d o' d' : List ℕ} → Bytes o → Bytes d → Bytes o' → Bytes d' → Run f o d → Run g o' d'
+      → (f ≡ g) × (o ≡ o') × (d ≡ d')
   word-only bo bd bo' bd' x y =
       let e = word-run-only (x .places) (y .places) in (
         e .0,

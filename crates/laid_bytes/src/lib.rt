@@ -1,7 +1,9 @@
 // Replay of a word whose order and due times are made within the two lent byte buffers themselves.
-use replay::Judged;
+use replay::Replayed;
 use table::Cells;
+use table::Checked;
 ghost use Rattle.replay.specs.Laid.{WordRun};
+ghost use Rattle.replay.specs.Play.{replayedFields};
 ghost use Rattle.laid_bytes.specs.OnPlaces.{OnPlaces};
 
 mod place;
@@ -15,17 +17,15 @@ pub fn play_word(
     stamps: &[u32],
     order: &mut [u8],
     due: &mut [u8],
-) -> u16
-    ensures { λ mark. ⌜ OnPlaces
-        (λ o₀ d₀ o d. WordRun (now (cells .entry)) (now (trace .entry)) start (now (stamps .entry)) o₀ d₀ mark o d)
+) -> Replayed
+    ensures { λ r. ⌜ OnPlaces
+        (λ o₀ d₀ o d. WordRun (now (cells .entry)) (now (trace .entry)) start (now (stamps .entry)) o₀ d₀ (replayedFields r) o d)
         (now (order .entry)) (now (due .entry)) (now (order .exit)) (now (due .exit)) ⌝ }
 {
-    match replay::judge_word(cells, trace, start, stamps, order.len() / 2, due.len() / 4) {
-        Judged::Unfit => 0,
-        Judged::Stopped(step) => step,
-        Judged::Inside => {
-            responses::play(cells, trace, start, stamps, order, due);
-            0
-        }
+    let told = replay::judge_word(cells, trace, start, stamps, order.len() / 2, due.len() / 4);
+    if let Checked::Refused(r) = told {
+        return Replayed::Refused(r);
     }
+    responses::play(cells, trace, start, stamps, order, due);
+    Replayed::Played
 }

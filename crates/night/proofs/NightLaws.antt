@@ -2,7 +2,7 @@
 use mathlib.Core.Path.{_≡_, refl, _∙_}
 use mathlib.Core.Logic.{inl, inr}
 use mathlib.Core.List.{List, [], _∷_, _++_}
-use Prim.Native.Nat.{ℕ, zero, suc, _+_, _*_, _-_, _≤_, _<_}
+use Prim.Native.Nat.{ℕ, _+_, _*_, _-_, _%_, _^_, _≤_, _<_}
 use native.Mathlib.Omega.{arith}
 use lib.ListN.{length, getD, take, drop, set}
 use Rattle.model.specs.Answers.{Fields}
@@ -20,9 +20,9 @@ use Rattle.trace.specs.Named.{TraceIn}
 use Rattle.trace.proofs.TraceLaws.{trace-handed}
 use Rattle.replay.specs.Laid.{WordRun}
 use Rattle.replay.specs.Play as replay
-use Rattle.replay.proofs.ReplayLaws.{first, refuses-gap, plays}
+use Rattle.replay.proofs.ReplayLaws.{first, word-place, word-replay}
 use Rattle.night.specs.declared.Words.the-variants.{Played, Refused}
-use Rattle.night.specs.Night.{wordsFields, answerOf, part, Room, ownTests, wordsTests, WordPlays, WordsOutcome, WordsRun}
+use Rattle.night.specs.Night.{wordsFields, part, Room, ownTests, wordsTests, WordPlays, WordsOutcome, WordsRun}
 use Rattle.night.proofs.PartLaws.{next-fits, length-part, set-put, one-word}
 
 -- one word more, with the places that the code lends: from `at` to `at + n`
@@ -35,10 +35,11 @@ module _ (c trace starts stamps o₀ d₀ m₀ : List ℕ) (w at : ℕ) (o d m :
   abbrev back : List ℕ → List ℕ → List ℕ
   back l new = take at l ++ (new ++ drop (at + length trace - at) (drop at l))
 
-  pub one-run : {o' d' : List ℕ} (mark : ℕ) → length o' ≡ length (lent o) → length d' ≡ length (lent d)
-      → WordRun c trace (getD starts w 0) (lent stamps) (lent o) (lent d) mark o' d'
+  pub one-run : {o' d' : List ℕ} {f : Fields} (mark : ℕ) → length o' ≡ length (lent o) → length d' ≡ length (lent d)
+      → WordRun c trace (getD starts w 0) (lent stamps) (lent o) (lent d) f o' d' → mark ≡ f .first % 2 ^ 16
       → WordsRun c trace starts stamps (w + 1) o₀ d₀ m₀ (back o o') (back d d') (set m w mark)
-  one-run {o'} {d'} mark so sd x =
+  one-run {o'} {d'} {f} mark so sd x em =
+      let same : mark ≡ f .first = omega (arith, word-place x) in
       let n : ℕ = length trace in
       let z : w * n + n - w * n ≡ n = omega arith in
       let fits : w * n + n ≤ length starts * n = next-fits w (length starts) n h in
@@ -46,9 +47,10 @@ module _ (c trace starts stamps o₀ d₀ m₀ : List ℕ) (w at : ℕ) (o d m :
       let fd : w * n + n ≤ length d = omega arith in
       let fm : w * 1 + 1 ≤ length m = omega arith in
       rw (ea, z, set-put m mark w fm)
-      (one-word n n 1 (λ w o₀ d₀ o d k. (step : ℕ) × (k ≡ step ∷ []) × WordRun c trace (getD starts w 0) (part n w stamps) o₀ d₀ step o d) o₀ d₀ m₀
+      (one-word n n 1
+      (λ w o₀ d₀ o d k. WordPlays (λ f. WordRun c trace (getD starts w 0) (part n w stamps) o₀ d₀ f o d) (λ step. k ≡ step ∷ [])) o₀ d₀ m₀
       w o d m o' d' (mark ∷ []) k fo fd fm (rw (ea, z) at so ∙ length-part n w o fo) (rw (ea, z) at sd ∙ length-part n w d fd) refl
-      (mark, refl, rw (ea, z) at x))
+      (record { said = f; outcome = rw (ea, z) at x; marked = rw same refl }))
 
 -- each way out of the tests
 module _ (t : Table) (trace starts stamps o₀ d₀ m₀ : List ℕ) where
@@ -113,18 +115,7 @@ module _ (m : Machine) (trace starts stamps o₀ d₀ m₀ : List ℕ) where
         (replay.ownTests m trace (part n w stamps) (part n w o₀) (part n w d₀))
         (p .1 .1 .1 .0, (es, ((omega arith, omega arith), tt)))
 
--- a word whose places pass those tests is a replay, its mark the step that refusal 9 names
-pub word-replay : (t : Table) (trace : List ℕ) (start : ℕ) (stamps o₀ d₀ : List ℕ) → Passes (first (machineOf t) trace start stamps o₀ d₀)
-    → (mark : ℕ) {o d : List ℕ} → WordRun (t .cells) trace start stamps o₀ d₀ mark o d
-    → replay.ReplayOutcome (machineOf t) trace start stamps o₀ d₀ (replay.replayedFields (answerOf mark)) o d
-word-replay t trace start stamps o₀ d₀ q zero x = plays t trace start stamps o₀ d₀ q x refl
-word-replay t trace start stamps o₀ d₀ q (suc i) x = refuses-gap t trace start stamps o₀ d₀ q x (omega arith)
-
-pub answer-first : (mark : ℕ) → replay.replayedFields (answerOf mark) .first ≡ mark
-answer-first zero = refl
-answer-first (suc i) = refl
-
--- so each word is one
+-- so each word is a replay
 module _ (t : Table) (trace starts stamps o₀ d₀ m₀ : List ℕ) (p : Passes (wordsTests (machineOf t) trace starts stamps o₀ d₀ m₀)) where
   module _ {o d marks : List ℕ} (k : WordsRun (t .cells) trace starts stamps (length starts) o₀ d₀ m₀ o d marks) where
     single : (w : ℕ) → w < length starts
@@ -135,9 +126,9 @@ module _ (t : Table) (trace starts stamps o₀ d₀ m₀ : List ℕ) (p : Passes
         let q = word-first (machineOf t) trace starts stamps o₀ d₀ m₀ p w h in
         let x = k .word w h in
         record {
-          said = replay.replayedFields (answerOf (x .0));
-          outcome = word-replay t trace (getD starts w 0) (part n w stamps) (part n w o₀) (part n w d₀) q (x .0) (x .2);
-          marked = rw (answer-first (x .0)) (x .1);
+          said = x .said;
+          outcome = word-replay t trace (getD starts w 0) (part n w stamps) (part n w o₀) (part n w d₀) q (x .outcome);
+          marked = x .marked;
         }
 
     pub all-played : WordsOutcome (machineOf t) trace starts stamps o₀ d₀ m₀ (wordsFields (Played (length starts))) o d marks

@@ -1,6 +1,6 @@
 -- Two outcomes that the contract of a night allows are equal, and what is said of a word.
 use mathlib.Core.Path.{_≡_, refl, sym, ap, _∙_}
-use mathlib.Core.Logic.{_⊎_, inl, inr}
+use mathlib.Core.Logic.{_⊎_, inl, inr, ⊎-elim}
 use mathlib.Core.List.{List, [], _∷_, _++_}
 use Prim.Native.Nat.{ℕ, zero, suc, _+_, _*_, _≤_, _<_}
 use native.Mathlib.Omega.{arith}
@@ -55,16 +55,17 @@ each-only a b c words o₀ d₀ m₀ o d k o' d' k' one p q = (
     same : (w : ℕ) → w < words → (part a w o ≡ part a w o') × (part b w d ≡ part b w d') × (part c w k ≡ part c w k')
     same w h = one w h (part a w o) (part b w d) (part c w k) (part a w o') (part b w d') (part c w k') (p .word w h) (q .word w h)
 
--- "9 is given per word": after the tests of the call no other refusal comes
-abbrev pub PlayedOr9 : ℕ → Fields → Type 0
-PlayedOr9 n f = (f ≡ fields 0 0 0 0) ⊎ ((f ≡ fields 9 (f .first) 0 0) × (1 ≤ f .first) × (f .first ≤ n))
+-- "9 is given per word", and 12 in its place: after the tests of the call no other refusal comes
+abbrev pub PlayedOrMissed : ℕ → Fields → Type 0
+PlayedOrMissed n f =
+    (f ≡ fields 0 0 0 0) ⊎ (((f ≡ fields 9 (f .first) 0 0) ⊎ (f ≡ fields 12 (f .first) 0 0)) × (1 ≤ f .first) × (f .first ≤ n))
 
-pub played-or-9 : (tests : List Test) (tr : List Transition) (gaps : List ℕ) {Done : Fields → Type 0} {Kept : Type 0} {f : Fields} → Passes tests
-    → (Done f → f ≡ fields 0 0 0 0) → Answered (tests ++ gapTests 0 tr gaps) Done Kept f → PlayedOr9 (length tr) f
-played-or-9 tests tr gaps p done (answers passes d) = inl (done d)
-played-or-9 tests tr gaps p done (refuses {n = i} {p = at} e fails kept) =
+pub played-or-missed : (tests : List Test) (tr : List Transition) (gaps : List ℕ) {Done : Fields → Type 0} {Kept : Type 0} {f : Fields} → Passes tests
+    → (Done f → f ≡ fields 0 0 0 0) → Answered (tests ++ gapTests 0 tr gaps) Done Kept f → PlayedOrMissed (length tr) f
+played-or-missed tests tr gaps p done (answers passes d) = inl (done d)
+played-or-missed tests tr gaps p done (refuses {n = i} {p = at} e fails kept) =
     let r = gaps-refuse gaps 0 tr i at (fails-back tests (gapTests 0 tr gaps) i at p .0 fails) in
-    inr (rw (e, r .0) refl, rw e (omega arith), rw e (omega arith))
+    inr (⊎-elim (λ (z : i ≡ 9). inl (rw (e, z) refl)) (λ (z : i ≡ 12). inr (rw (e, z) refl)) (r .0), rw e (omega arith), rw e (omega arith))
 
 module _ (m : Machine) (trace starts stamps o₀ d₀ m₀ : List ℕ) where
   abbrev n : ℕ
@@ -93,8 +94,8 @@ module _ (m : Machine) (trace starts stamps o₀ d₀ m₀ : List ℕ) where
   -- so the mark is 0 or names a step of the trace
   pub word-said : Passes (wordsTests m trace starts stamps o₀ d₀ m₀) → (w : ℕ) (o d : List ℕ) {Marked : ℕ → Type 0} → w < length starts
       → (x : WordPlays (λ f. ReplayOutcome m trace (getD starts w 0) (part n w stamps) (part n w o₀) (part n w d₀) f o d) Marked)
-      → PlayedOr9 n (x .said)
+      → PlayedOrMissed n (x .said)
   word-said p w o d h x =
       rw (← length-steps (m .transitions) trace)
-      (played-or-9 (first m trace (getD starts w 0) (part n w stamps) (part n w o₀) (part n w d₀)) (steps (m .transitions) trace)
+      (played-or-missed (first m trace (getD starts w 0) (part n w stamps) (part n w o₀) (part n w d₀)) (steps (m .transitions) trace)
       (gapsFrom (getD starts w 0) (part n w stamps)) (word-first m trace starts stamps o₀ d₀ m₀ p w h) (λ d. d .0) (x .outcome))

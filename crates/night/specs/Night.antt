@@ -1,16 +1,13 @@
 -- What a night of words answers, and what it leaves in the lent memory.
 use mathlib.Core.Path.{_≡_}
 use mathlib.Core.List.{List, [], _∷_}
-use Prim.Native.Nat.{ℕ, zero, suc, _*_, _≤_, _<_}
+use Prim.Native.Nat.{ℕ, _*_, _≤_, _<_}
 use lib.ListN.{length, getD, take, drop}
 use Rattle.model.specs.Answers.{Fields, fields}
 use Rattle.model.specs.Table.{Machine}
 use Rattle.model.specs.Trace.{Handed}
-use Rattle.table.specs.declared.Refusal.the-variants.{Outside}
 use Rattle.table.specs.Refusal.{refusedFields}
 use Rattle.table.specs.Tests.{Test, unless, Answered, afterTable}
-use Rattle.replay.specs.declared.Replayed.{Replayed}
-use Rattle.replay.specs.declared.Replayed.the-variants as replayed
 use Rattle.replay.specs.Laid.{WordRun}
 use Rattle.replay.specs.Play.{ReplayOutcome}
 use Rattle.night.specs.declared.Words.{Words}
@@ -19,11 +16,6 @@ use Rattle.night.specs.declared.Words.the-variants.{Played, Refused}
 abbrev pub wordsFields : Words → Fields
 wordsFields (Played words) = fields 0 words 0 0
 wordsFields (Refused r) = refusedFields r
-
--- what the single replay answers of which a mark is told
-abbrev pub answerOf : ℕ → Replayed
-answerOf zero = replayed.Played
-answerOf (suc i) = replayed.Refused (Outside (suc i))
 
 -- "words laid end to end": the n places of word w, counted from 0
 abbrev pub part : ℕ → ℕ → List ℕ → List ℕ
@@ -54,7 +46,8 @@ pub record EachWord (a b c : ℕ) (Does : (w : ℕ) (order₀ due₀ order due m
   pub due-rest : drop (words * b) due ≡ drop (words * b) due₀
   pub marks-rest : drop (words * c) marks ≡ drop (words * c) marks₀
 
--- "Answers are those of single replays"; the mark is "0, or the first step outside its guard", which refusal 9 names: it is "given per word"
+-- "Answers are those of single replays"; the mark is "0, or the first step outside its guard", which its refusal names, early or late: "R-2's place
+-- still names the step alone" (02, R-6)
 pub record WordPlays (Outcome : Fields → Type 0) (Marked : ℕ → Type 0) : Type 0 where
   pub said : Fields
   pub outcome : Outcome said
@@ -78,5 +71,5 @@ abbrev pub WordsRun : List ℕ → List ℕ → List ℕ → List ℕ → ℕ �
 WordsRun cells trace starts stamps words order₀ due₀ marks₀ order due marks =
     EachWord (length trace) (length trace) 1
     (λ w o₀ d₀ o d mark.
-    (step : ℕ) × (mark ≡ step ∷ []) × WordRun cells trace (getD starts w 0) (part (length trace) w stamps) o₀ d₀ step o d)
+    WordPlays (λ f. WordRun cells trace (getD starts w 0) (part (length trace) w stamps) o₀ d₀ f o d) (λ step. mark ≡ step ∷ []))
     words order₀ due₀ marks₀ order due marks

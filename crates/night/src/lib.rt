@@ -77,7 +77,7 @@ fn play_all(
     while w < starts.len() {
         let end = at + n;
         let start = starts[w];
-        marks[w] = replay::play_word(
+        let played = replay::play_word(
             cells,
             trace,
             start,
@@ -85,6 +85,7 @@ fn play_all(
             &mut order[at..end],
             &mut due[at..end],
         );
+        marks[w] = replay::mark(played);
         at = end;
         w += 1;
     }

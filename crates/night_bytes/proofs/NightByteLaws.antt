@@ -2,7 +2,7 @@
 use mathlib.Core.Path.{_≡_, refl, _∙_}
 use mathlib.Core.List.{List, [], _∷_, _++_}
 use mathlib.Core.Logic.{inl, inr}
-use Prim.Native.Nat.{ℕ, _+_, _*_, _-_, _%_, _/_, _≤_, _<_}
+use Prim.Native.Nat.{ℕ, _+_, _*_, _-_, _%_, _/_, _^_, _≤_, _<_}
 use native.Mathlib.Nat.{mul-assoc, mul-le-mul-right}
 use native.Mathlib.Omega.{arith}
 use lib.ListN.{length, take, drop, length-append, length-take, length-drop}
@@ -22,14 +22,13 @@ use Rattle.table.specs.Rows.{machineOf}
 use Rattle.table.specs.Tests.{Test, Passes, refuses, answers, Tested}
 use Rattle.table.proofs.TestLaws.{tested-passes, tested-fails}
 use Rattle.trace.specs.Named.{TraceIn}
-use Rattle.replay.specs.Play.{replayedFields}
+use Rattle.replay.proofs.ReplayLaws.{word-place}
 use Rattle.places.specs.Places.{Decoded}
 use Rattle.places.proofs.PlaceLaws.{length-wholes}
 use Rattle.on_bytes.proofs.ByteLaws.{untraced, traced, traced-whole, traced-count}
 use Rattle.night.specs.declared.Words.the-variants.{Played, Refused}
-use Rattle.night.specs.Night.{wordsFields, answerOf, part}
+use Rattle.night.specs.Night.{wordsFields, part, WordPlays}
 use Rattle.night.proofs.PartLaws.{put, next-fits, length-part, one-word}
-use Rattle.night.proofs.NightLaws.{answer-first}
 use Rattle.night_bytes.specs.NightBytes.{sizeTests, AllOnMachine, WordsOnMachine}
 use Rattle.night_bytes.specs.Runs.{Lent, WordWritten, WordsWritten}
 use Rattle.night_bytes.proofs.WordLaws.{bytes-part, word-bytes}
@@ -56,11 +55,12 @@ module _ (c trace starts stamps o₀ d₀ m₀ : List ℕ) (words w two four : �
   abbrev back : ℕ → ℕ → List ℕ → List ℕ → List ℕ
   back at size l new = take at l ++ (new ++ drop (at + size - at) (drop at l))
 
-  pub one-written : {o' d' m' : List ℕ} {start : ℕ} (mark : ℕ) → start ≡ le 4 starts (w * 4) → length o' ≡ length (cut two (n * 2) o) → length d' ≡ length (cut four (n * 4) d)
+  pub one-written : {o' d' m' : List ℕ} {start : ℕ} {f : Fields} (mark : ℕ) → start ≡ le 4 starts (w * 4) → length o' ≡ length (cut two (n * 2) o) → length d' ≡ length (cut four (n * 4) d)
       → m' ≡ placed m (w * 2) (bytes 2 (mark ∷ []))
-      → WordWritten c trace start (cut four (n * 4) stamps) (cut two (n * 2) o) (cut four (n * 4) d) mark o' d'
+      → WordWritten c trace start (cut four (n * 4) stamps) (cut two (n * 2) o) (cut four (n * 4) d) f o' d' → mark ≡ f .first % 2 ^ 16
       → WordsWritten c trace starts stamps (w + 1) o₀ d₀ m₀ (back two (n * 2) o o') (back four (n * 4) d d') m'
-  one-written {o'} {d'} mark es so sd em x =
+  one-written {o'} {d'} {f = f} mark es so sd em x ek =
+      let same : mark ≡ f .first = omega (arith, word-place (x .places)) in
       let zt : w * (n * 2) + n * 2 - w * (n * 2) ≡ n * 2 = omega arith in
       let zf : w * (n * 4) + n * 4 - w * (n * 4) ≡ n * 4 = omega arith in
       let fo : w * (n * 2) + n * 2 ≤ length o = omega (arith, next-fits w words (n * 2) h, lent .order-bytes) in
@@ -69,9 +69,11 @@ module _ (c trace starts stamps o₀ d₀ m₀ : List ℕ) (words w two four : �
       let sm : length (bytes 2 (mark ∷ [])) ≡ 2 = length-bytes 2 (mark ∷ []) in
       rw (et, ef, zt, zf, em, placed-put m (bytes 2 (mark ∷ [])) 2 w fm sm)
       (one-word (n * 2) (n * 4) 2
-      (λ w o₀ d₀ o d k. (step : ℕ) × (k ≡ bytes 2 (step ∷ [])) × WordWritten c trace (le 4 starts (w * 4)) (part (n * 4) w stamps) o₀ d₀ step o d)
+      (λ w o₀ d₀ o d k.
+      WordPlays (λ f. WordWritten c trace (le 4 starts (w * 4)) (part (n * 4) w stamps) o₀ d₀ f o d) (λ step. k ≡ bytes 2 (step ∷ [])))
       o₀ d₀ m₀ w o d m o' d' (bytes 2 (mark ∷ [])) k fo fd fm (rw (et, zt) at so ∙ length-part (n * 2) w o fo)
-      (rw (ef, zf) at sd ∙ length-part (n * 4) w d fd) sm (mark, refl, rw (es, et, ef, zt, zf) at x))
+      (rw (ef, zf) at sd ∙ length-part (n * 4) w d fd) sm
+      (record { said = f; outcome = rw (es, et, ef, zt, zf) at x; marked = rw same refl }))
 
 -- each way out of the test of the lengths
 module _ (n : ℕ) (starts stamps o₀ d₀ m₀ : List ℕ) where
@@ -186,15 +188,15 @@ module _ (t : Table) (valid : Valid (machineOf t)) (trace starts stamps o₀ d�
                     let fs = next-fits w (length starts / 4) (steps * 4) h in
                     let fo = next-fits w (length starts / 4) (steps * 2) h in
                     record {
-                      said = replayedFields (answerOf (one .0));
+                      said = one .said;
                       outcome = word-bytes t valid trace handed (le 4 starts (w * 4)) (part (steps * 4) w stamps) (part (steps * 2) w o₀)
                           (part (steps * 4) w d₀)
                           (length-part (steps * 4) w stamps (omega (arith, lent .stamps-bytes)))
                           (length-part (steps * 2) w o₀ (omega (arith, lent .order-bytes)))
-                          (length-part (steps * 4) w d₀ (omega (arith, lent .due-bytes))) (one .0)
+                          (length-part (steps * 4) w d₀ (omega (arith, lent .due-bytes)))
                           (bytes-part (steps * 2) w o₀ bo₀) (bytes-part (steps * 4) w d₀ bd₀) (bytes-part (steps * 2) w o bo)
-                          (bytes-part (steps * 4) w d bd) (one .2);
-                      marked = rw (answer-first (one .0)) (one .1);
+                          (bytes-part (steps * 4) w d bd) (one .outcome);
+                      marked = one .marked;
                     };
                 order-rest = y .order-rest;
                 due-rest = y .due-rest;

@@ -20,7 +20,7 @@ use Rattle.on_bytes.proofs.OnlyLaws.{replay-machine-only}
 use Rattle.night.specs.declared.Words.{Words}
 use Rattle.night.specs.Night.{wordsFields, part, WordPlays}
 use Rattle.night.proofs.PartLaws.{next-fits, length-part}
-use Rattle.night.proofs.OutcomeLaws.{words-said, each-only, PlayedOr9, played-or-9}
+use Rattle.night.proofs.OutcomeLaws.{words-said, each-only, PlayedOrMissed, played-or-missed}
 use Rattle.night_bytes.specs.NightBytes.{sizeTests, WordsBytesOutcome}
 
 module _ (trace starts stamps o₀ d₀ m₀ : List ℕ) where
@@ -58,10 +58,10 @@ module _ (trace starts stamps o₀ d₀ m₀ : List ℕ) where
       let e = words-fields-only file (wordsFields r) (wordsFields s) o d k o' d' k' x y in
       (words-said r s (e .0), e .1, e .2, e .3)
 
-  -- a word is played, or refused with 9 by a step of the trace
+  -- a word is played, or refused with 9 or 12 by a step of the trace
   pub word-bytes-said : (m : Machine) → Passes (traceTest m trace ∷ sizeTests n starts stamps o₀ d₀ m₀) → (w : ℕ) (o d : List ℕ) {Marked : ℕ → Type 0} → w < words
       → (x : WordPlays (λ f. ReplayOnMachine m trace (le 4 starts (w * 4)) (part (n * 4) w stamps) (part (n * 2) w o₀) (part (n * 4) w d₀) f o d) Marked)
-      → PlayedOr9 n (x .said)
+      → PlayedOrMissed n (x .said)
   word-bytes-said m p w o d h x =
       let fits = next-fits w words n h in
       let room = p .1 .1 .0 in
@@ -71,6 +71,6 @@ module _ (trace starts stamps o₀ d₀ m₀ : List ℕ) where
       let ed : length (part (n * 4) w d₀) ≡ n * 4 = length-part (n * 4) w d₀ (omega (arith, room .due-room, length-wholes 4 d₀)) in
       let s : length (pathIn m trace) ≡ n = length-steps (m .transitions) (wholes 2 trace) ∙ length-wholes 2 trace in
       rw (← s)
-      (played-or-9 (sizesTests m trace (part (n * 4) w stamps) (part (n * 2) w o₀) (part (n * 4) w d₀)) (pathIn m trace)
+      (played-or-missed (sizesTests m trace (part (n * 4) w stamps) (part (n * 2) w o₀) (part (n * 4) w d₀)) (pathIn m trace)
       (gapsFrom (le 4 starts (w * 4)) (wholes 4 (part (n * 4) w stamps))) (p .0, ((omega arith, omega arith), ((omega arith, omega arith), tt)))
       (λ d. d .0) (x .outcome))

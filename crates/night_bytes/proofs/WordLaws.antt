@@ -1,22 +1,22 @@
 -- One word within its own bytes is a replay on them.
-use mathlib.Core.Path.{_≡_, refl}
+use mathlib.Core.Path.{_≡_}
 use mathlib.Core.Logic.{dite}
 use mathlib.Core.List.{List}
-use Prim.Native.Nat.{ℕ, zero, suc, _*_, _%_, _/_, _≤_}
+use Prim.Native.Nat.{ℕ, _*_, _%_, _/_, _≤_}
 use native.Mathlib.Decide.{decLt}
 use native.Mathlib.Omega.{arith}
 use lib.ListN.{length, drop, length-take, List·getD-eq-default}
 use lib.Seq.{getD-take}
+use Rattle.model.specs.Answers.{Fields}
 use Rattle.model.specs.Table.{Valid}
 use Rattle.model.specs.Trace.{Handed}
 use Rattle.wire.specs.Bytes.{Bytes, wholes}
 use Rattle.wire.proofs.Bytes.{bytes-drop}
 use Rattle.table.specs.declared.Table.{Table}
 use Rattle.table.specs.Rows.{machineOf}
-use Rattle.replay.specs.Play.{replayedFields}
 use Rattle.on_bytes.specs.Replays.{ReplayOnMachine}
 use Rattle.on_bytes.proofs.ByteLaws.{word-answer}
-use Rattle.night.specs.Night.{answerOf, part}
+use Rattle.night.specs.Night.{part}
 use Rattle.night_bytes.specs.Runs.{WordWritten}
 
 -- a part of bytes is bytes
@@ -31,10 +31,6 @@ bytes-part n w l b i =
 module _ (t : Table) (valid : Valid (machineOf t)) (trace : List ℕ) (traced : (length trace % 2 ≡ 0) × Handed (machineOf t .transitions) (wholes 2 trace))
     (start : ℕ) (stamps order₀ due₀ : List ℕ) (es : length stamps ≡ length trace / 2 * 4) (eo : length order₀ ≡ length trace / 2 * 2)
     (ed : length due₀ ≡ length trace / 2 * 4) where
-  pub word-bytes : (mark : ℕ) {order due : List ℕ} → Bytes order₀ → Bytes due₀ → Bytes order → Bytes due
-      → WordWritten (t .cells) (wholes 2 trace) start stamps order₀ due₀ mark order due
-      → ReplayOnMachine (machineOf t) trace start stamps order₀ due₀ (replayedFields (answerOf mark)) order due
-  word-bytes zero bo₀ bd₀ bo bd x =
-      word-answer t valid trace start stamps order₀ due₀ traced (omega arith) (omega arith) bo₀ bd₀ bo bd x .played refl
-  word-bytes (suc i) bo₀ bd₀ bo bd x =
-      word-answer t valid trace start stamps order₀ due₀ traced (omega arith) (omega arith) bo₀ bd₀ bo bd x .stopped (omega arith)
+  pub word-bytes : {f : Fields} {order due : List ℕ} → Bytes order₀ → Bytes due₀ → Bytes order → Bytes due
+      → WordWritten (t .cells) (wholes 2 trace) start stamps order₀ due₀ f order due → ReplayOnMachine (machineOf t) trace start stamps order₀ due₀ f order due
+  word-bytes bo₀ bd₀ bo bd x = word-answer t valid trace start stamps order₀ due₀ traced (omega arith) (omega arith) bo₀ bd₀ bo bd x

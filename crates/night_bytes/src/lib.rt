@@ -1,5 +1,6 @@
 // The calls on byte buffers: a night of words. Start stamps, stamps and due times take places of four bytes, steps and marks places of two.
 use night::Words;
+use replay::Replayed;
 use table::Cells;
 use table::Checked;
 use table::Refusal;
@@ -11,6 +12,7 @@ ghost use Rattle.table.specs.Refusal.{checkedFields};
 ghost use Rattle.table.specs.Rows.{machineOf};
 ghost use Rattle.table.specs.Tests.{Tested};
 ghost use Rattle.table_file.specs.File.{heldIn};
+ghost use Rattle.replay.specs.Play.{replayedFields};
 ghost use Rattle.night.specs.Night.{wordsFields};
 ghost use Rattle.night_bytes.specs.NightBytes.{sizeTests, WordsOnMachine, WordsBytesOutcome};
 ghost use Rattle.night_bytes.specs.Runs.{Sized, Lent, WordWritten, WordsWritten};
@@ -64,11 +66,11 @@ fn play_one(
     order: &mut [u8],
     due: &mut [u8],
     read: &mut [u32],
-) -> u16
+) -> Replayed
     requires { ⌜ Sized (length (now trace)) (now stamps) (now read) ⌝ }
-    ensures { λ mark. ⌜ WordWritten
+    ensures { λ r. ⌜ WordWritten
         (now (cells .entry)) (now (trace .entry)) start (now (stamps .entry)) (now (order .entry)) (now (due .entry))
-        mark (now (order .exit)) (now (due .exit)) ⌝ }
+        (replayedFields r) (now (order .exit)) (now (due .exit)) ⌝ }
 {
     let k = places::fours_in(stamps, read);
     laid_bytes::play_word(cells, trace, start, &read[..k], order, due)
@@ -98,7 +100,7 @@ fn play_all(
         let twos = two + trace.len() * 2;
         let fours = four + trace.len() * 4;
         let start = wire::four(starts, w * 4);
-        let mark = play_one(
+        let played = play_one(
             cells,
             trace,
             start,
@@ -107,6 +109,7 @@ fn play_all(
             &mut due[four..fours],
             &mut read,
         );
+        let mark = replay::mark(played);
         wire::put_twos(marks, w * 2, &[mark; 1]);
         two = twos;
         four = fours;

@@ -9,29 +9,25 @@ use Rattle.model.specs.Answers.{Fields}
 use Rattle.model.specs.Table.{Machine, Valid}
 use Rattle.model.specs.Trace.{Handed, steps}
 use Rattle.model.specs.Stamps.{gapsFrom}
+use Rattle.model.proofs.Paths.{length-steps}
 use Rattle.wire.specs.Bytes.{Bytes, wholes}
 use Rattle.table.specs.declared.Table.{Table}
-use Rattle.table.specs.declared.Refusal.the-variants.{NoTrace, Uneven, NoRoom, Outside}
+use Rattle.table.specs.declared.Refusal.the-variants.{NoTrace, Uneven, NoRoom}
 use Rattle.table.specs.Rows.{machineOf}
 use Rattle.table.specs.Tests.{Test, Passes, Fails, refuses, answers}
 use Rattle.table.proofs.TestLaws.{passes-append, fails-back, valid-passes, valid-fails}
 use Rattle.trace.specs.Named.{TraceIn}
 use Rattle.trace.proofs.TraceLaws.{trace-handed}
-use Rattle.replay.specs.declared.Replayed.the-variants.{Played, Refused}
+use Rattle.replay.specs.declared.Replayed.the-variants.{Refused}
 use Rattle.replay.specs.Laid.{WordRun}
 use Rattle.replay.specs.Play.{replayedFields, ownTests, gapTests, ReplayOutcome}
 use Rattle.replay.proofs.ReplayLaws as replay
-use Rattle.replay.proofs.OutcomeLaws.{unplayed, plays, plays-tested, plays-length}
+use Rattle.replay.proofs.LaidLaws.{conversion-length}
 use Rattle.laid_bytes.specs.OnPlaces.{OnPlaces}
 use Rattle.laid_bytes.proofs.WholeLaws.{same-bytes, over-bytes}
 use Rattle.places.specs.Places.{fitted, handedOn, Decoded}
 use Rattle.places.proofs.PlaceLaws.{length-wholes, whole-all, decoded-take, handed-whole, handed-count, count-handed, trace-whole, whole-trace, trace-count}
 use Rattle.on_bytes.specs.Replays.{sizesTests, ReplayOnMachine}
-
--- what a word is answered by its mark
-pub record WordAnswer (t : Table) (trace : List ℕ) (start : ℕ) (stamps order₀ due₀ : List ℕ) (mark : ℕ) (order due : List ℕ) : Type 0 where
-  pub stopped : 1 ≤ mark → ReplayOnMachine (machineOf t) trace start stamps order₀ due₀ (replayedFields (Refused (Outside mark))) order due
-  pub played : mark ≡ 0 → ReplayOnMachine (machineOf t) trace start stamps order₀ due₀ (replayedFields Played) order due
 
 -- with a table that was read: a trace in bytes, and a word's stamps and places
 module _ (t : Table) (valid : Valid (machineOf t)) (trace : List ℕ) (start : ℕ) (stamps order₀ due₀ : List ℕ) where
@@ -67,8 +63,8 @@ module _ (t : Table) (valid : Valid (machineOf t)) (trace : List ℕ) (start : �
     cramped e x = refuses refl (inr (traced, inr (e, inl (x, refl, refl)))) (refl, refl)
 
     -- played within the lent bytes
-    module _ (even : Even) (roomy : Roomy) (bo₀ : Bytes order₀) (bd₀ : Bytes due₀) {order due : List ℕ} (bo : Bytes order) (bd : Bytes due) {mark : ℕ}
-        (run : OnPlaces (λ o₀ d₀ o d. WordRun (t .cells) nums start marks o₀ d₀ mark o d) order₀ due₀ order due) where
+    module _ (even : Even) (roomy : Roomy) (bo₀ : Bytes order₀) (bd₀ : Bytes due₀) {order due : List ℕ} (bo : Bytes order) (bd : Bytes due) {f : Fields}
+        (run : OnPlaces (λ o₀ d₀ o d. WordRun (t .cells) nums start marks o₀ d₀ f o d) order₀ due₀ order due) where
       abbrev o₀ : List ℕ
       o₀ = wholes 2 order₀
 
@@ -104,36 +100,32 @@ module _ (t : Table) (valid : Valid (machineOf t)) (trace : List ℕ) (start : �
       sizes-passed : Passes sizes
       sizes-passed = (traced, (even, (roomy, tt)))
 
-      word-stopped : 1 ≤ mark → Out (replayedFields (Refused (Outside mark))) order due
-      word-stopped h =
-          let x : Valued (replayedFields (Refused (Outside mark))) = replay.refuses-gap t nums start marks o₀ d₀ passed (run .places) h in
-          let u = unplayed (Outside mark) x in
-          let outside : Fails gaps 9 mark = fails-back own gaps 9 mark own-passed .0 (valid-fails m valid (own ++ gaps) 9 mark .0 (u .0)) in
-          refuses refl (fails-back sizes gaps 9 mark sizes-passed .1 outside)
-          (same-bytes 2 bo bo₀ (u .1 .0) (run .order-rest), same-bytes 4 bd bd₀ (u .1 .1) (run .due-rest))
-
-      word-played : mark ≡ 0 → Out (replayedFields Played) order due
-      word-played z =
-          let x : Valued (replayedFields Played) = replay.plays t nums start marks o₀ d₀ passed (run .places) z in
-          let k = plays m nums start marks o₀ d₀ (wholes 2 order) (wholes 4 due) x in
-          let all : length (k .responses) ≡ length trace / 2 =
-          plays-length m nums start marks o₀ d₀ (wholes 2 order) (wholes 4 due) x ∙ length-wholes 2 trace in
-          let inside : Passes gaps = passes-append own gaps .0 (plays-tested m nums start marks o₀ d₀ (wholes 2 order) (wholes 4 due) x .1 .1 .1) .1 in
-          answers (passes-append sizes gaps .1 (sizes-passed, inside)) (
-            refl,
-            record {
-              activates = k .activates;
-              responses = k .responses;
-              converts = k .converts;
-              orders = over-bytes 2 order order₀ bo bo₀ (length trace / 2) (map (λ r. r .step) (k .responses))
-                  (length-map (k .responses) (λ r. r .step) ∙ all) (roomy .0) (rw (length-wholes 2 trace) at (k .orders)) (run .order-rest);
-              dues = over-bytes 4 due due₀ bd bd₀ (length trace / 2) (map (λ r. r .time) (k .responses))
-                  (length-map (k .responses) (λ r. r .time) ∙ all) (roomy .1) (rw (length-wholes 2 trace) at (k .dues)) (run .due-rest);
-            },
-          )
-
-      pub word-answer : WordAnswer t trace start stamps order₀ due₀ mark order due
-      word-answer = record { stopped = word-stopped; played = word-played }
+      -- so what the word is answered on the whole places is the answer on bytes
+      pub word-answer : Out f order due
+      word-answer = told (replay.word-replay t nums start marks o₀ d₀ passed (run .places))
+        where
+          told : Valued f → Out f order due
+          told (refuses {n = n} {p = p} z b k) =
+              let outside : Fails gaps n p = fails-back own gaps n p own-passed .0 (valid-fails m valid (own ++ gaps) n p .0 b) in
+              refuses z (fails-back sizes gaps n p sizes-passed .1 outside)
+              (same-bytes 2 bo bo₀ (k .0) (run .order-rest), same-bytes 4 bd bd₀ (k .1) (run .due-rest))
+          told (answers q x) =
+              let k = x .1 in
+              let all : length (k .responses) ≡ length trace / 2 =
+              conversion-length (k .converts) ∙ length-steps (m .transitions) nums ∙ length-wholes 2 trace in
+              let inside : Passes gaps = passes-append own gaps .0 (q .1 .1 .1) .1 in
+              answers (passes-append sizes gaps .1 (sizes-passed, inside)) (
+                x .0,
+                record {
+                  activates = k .activates;
+                  responses = k .responses;
+                  converts = k .converts;
+                  orders = over-bytes 2 order order₀ bo bo₀ (length trace / 2) (map (λ r. r .step) (k .responses))
+                      (length-map (k .responses) (λ r. r .step) ∙ all) (roomy .0) (rw (length-wholes 2 trace) at (k .orders)) (run .order-rest);
+                  dues = over-bytes 4 due due₀ bd bd₀ (length trace / 2) (map (λ r. r .time) (k .responses))
+                      (length-map (k .responses) (λ r. r .time) ∙ all) (roomy .1) (rw (length-wholes 2 trace) at (k .dues)) (run .due-rest);
+                },
+              )
 
 -- a trace decoded into 512 places: the trace in bytes, told by the test of the numbers
 module _ (t : Table) (valid : Valid (machineOf t)) (trace : List ℕ) {n : ℕ} {s₀ s : List ℕ} (got : Decoded 2 trace s₀ n s) (long : length s₀ ≡ 512) where
@@ -198,10 +190,10 @@ module _ (t : Table) (valid : Valid (machineOf t)) (trace : List ℕ) (start : �
         cramped t valid trace start stamps order₀ due₀ handed even (λ r. f (omega (arith, size), omega (arith, size)))
 
     module _ (ro : n ≤ length order₀ / 2) (rd : n ≤ length due₀ / 4) (bo₀ : Bytes order₀) (bd₀ : Bytes due₀) {order due : List ℕ} (bo : Bytes order)
-        (bd : Bytes due) {mark : ℕ} (run : OnPlaces (λ o₀ d₀ o d. WordRun (t .cells) (take n s) start (take k ms) o₀ d₀ mark o d) order₀ due₀ order due) where
-      own-run : OnPlaces (λ o₀ d₀ o d. WordRun (t .cells) (wholes 2 trace) start (wholes 4 stamps) o₀ d₀ mark o d) order₀ due₀ order due
+        (bd : Bytes due) {f : Fields} (run : OnPlaces (λ o₀ d₀ o d. WordRun (t .cells) (take n s) start (take k ms) o₀ d₀ f o d) order₀ due₀ order due) where
+      own-run : OnPlaces (λ o₀ d₀ o d. WordRun (t .cells) (wholes 2 trace) start (wholes 4 stamps) o₀ d₀ f o d) order₀ due₀ order due
       own-run =
           rw (traced-whole t valid trace got long x, stamped-whole stamps (length trace / 2) got' long' (within .1) even) at run
 
-      pub read-word : WordAnswer t trace start stamps order₀ due₀ mark order due
+      pub read-word : Out t valid trace start stamps order₀ due₀ f order due
       read-word = word-answer t valid trace start stamps order₀ due₀ handed even (omega (arith, size)) bo₀ bd₀ bo bd own-run

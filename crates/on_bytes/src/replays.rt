@@ -40,9 +40,5 @@ pub(crate) fn replay_on(
     if due.len() / 4 < n {
         return Replayed::Refused(Refusal::NoRoom);
     }
-    let mark = laid_bytes::play_word(cells, &steps[..n], start, &marks[..k], order, due);
-    if 0 < mark {
-        return Replayed::Refused(Refusal::Outside(mark as usize));
-    }
-    Replayed::Played
+    laid_bytes::play_word(cells, &steps[..n], start, &marks[..k], order, due)
 }

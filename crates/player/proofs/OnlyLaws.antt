@@ -7,7 +7,7 @@ use lib.ListN.{getD, drop}
 use Rattle.model.specs.Answers.{Fields, fields}
 use Rattle.model.specs.Lists.{All, all-cons}
 use Rattle.model.specs.Table.{Machine, at}
-use Rattle.table.specs.declared.Refusal.the-variants.{Cut, Misplaced, Full, OutOfRange, Repeated, NoTrace, Uneven, NoRoom, Outside}
+use Rattle.table.specs.declared.Refusal.the-variants.{Cut, Misplaced, Full, OutOfRange, Repeated, NoTrace, Uneven, NoRoom, Early, Late}
 use Rattle.table.proofs.TestLaws.{answered-only}
 use Rattle.records.specs.declared.Pending.{Pending}
 use Rattle.player.specs.declared.Config.{Config}
@@ -22,7 +22,7 @@ use Rattle.player.specs.Moves.{waitingIn, InputDone, OutputDone, MoveDon
 made : ℕ → ℕ → ℕ → Answer
 made n a b =
     getD (Done a b ∷ Refused (Cut a) ∷ Refused (Misplaced a) ∷ Refused (Full a) ∷ Refused (OutOfRange a) ∷ Refused (Repeated a) ∷ Refused NoTrace
-    ∷ Refused Uneven ∷ Refused NoRoom ∷ Refused (Outside a) ∷ Closed ∷ Untimely ∷ Damaged ∷ Split ∷ Spent ∷ Damaged ∷ []) n Damaged
+    ∷ Refused Uneven ∷ Refused NoRoom ∷ Refused (Early a) ∷ Closed ∷ Untimely ∷ Refused (Late a) ∷ Split ∷ Spent ∷ Damaged ∷ []) n Damaged
 
 made-is : (a : Answer) → made (answerFields a .status) (answerFields a .first) (answerFields a .second) ≡ a
 unfolding made
@@ -35,7 +35,8 @@ made-is (Refused (Repeated p)) = refl
 made-is (Refused NoTrace) = refl
 made-is (Refused Uneven) = refl
 made-is (Refused NoRoom) = refl
-made-is (Refused (Outside p)) = refl
+made-is (Refused (Early p)) = refl
+made-is (Refused (Late p)) = refl
 made-is Closed = refl
 made-is Untimely = refl
 made-is Split = refl

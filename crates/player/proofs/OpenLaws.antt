@@ -7,7 +7,6 @@ use native.Mathlib.Omega.{arith}
 use borrow.Author.Count.{below-more}
 use Rattle.model.specs.Answers.{Tells}
 use Rattle.model.specs.Table.{Transition, Valid, at}
-use Rattle.model.specs.Word.{Fits}
 use Rattle.model.specs.Verdict.{Splits}
 use Rattle.model.proofs.Split.{split-law}
 use Rattle.table.specs.declared.Row.{Row}
@@ -16,6 +15,10 @@ use Rattle.table.specs.Rows.{rows, rowOf, said, machineOf}
 use Rattle.table.proofs.RowLaws.{length-rows, row-known}
 use Rattle.table.proofs.FitLaws.{valid-sound}
 use Rattle.table.proofs.TestLaws.{valid-count}
+use Rattle.replay.specs.declared.Guard.{Guard}
+use Rattle.replay.specs.declared.Guard.the-variants.{Inside}
+use Rattle.replay.specs.Guards.{Meets}
+use Rattle.replay.proofs.GuardLaws.{guard-only}
 use Rattle.reach.specs.Reach.{Admits, Reach}
 use Rattle.split_pair.specs.declared.Pair.the-variants.{At, Nothing}
 use Rattle.split_pair.specs.Split.{SplitOutcome}
@@ -23,11 +26,13 @@ use Rattle.split_pair.proofs.SplitLaws.{split-found}
 use Rattle.player.specs.declared.Config.{Config}
 use Rattle.player.specs.Decide.{Opens, FirstOpen, Fits15}
 
--- three tests, the last of them told by another
-pub opens-told : (t : Transition) (state letter timer : ℕ) (b : Bool) → t .from ≡ state → t .input ≡ letter → Tells b (Fits 256 t timer)
-    → Tells b (Opens t state letter timer)
-opens-told t state letter timer true e f h = record { leaves = e; asks = f; fits = h }
-opens-told t state letter timer false e f h = λ o. h (o .fits)
+-- a guard that is met inside opens, and no other
+pub opens-inside : {t : Transition} {state letter timer : ℕ} {g : Guard} → t .from ≡ state → t .input ≡ letter → g ≡ Inside → Meets g 256 t timer
+    → Opens t state letter timer
+opens-inside e f i m = record { leaves = e; asks = f; fits = rw i at m }
+
+pub shut-outside : {t : Transition} {state letter timer : ℕ} (g : Guard) → (g ≡ Inside → ⊥) → Meets g 256 t timer → Opens t state letter timer → ⊥
+shut-outside {t} {timer = timer} g n m o = n (guard-only 256 t timer g Inside m (o .fits))
 
 -- none of the first i is open
 module _ (c : List ℕ) (n state letter timer : ℕ) where

@@ -1,5 +1,6 @@
 // Which transition takes an input, and whether the table is split.
 use reach::Marks;
+use replay::Guard;
 use split_pair::Pair;
 use table::Cells;
 use table::Row;
@@ -21,7 +22,11 @@ fn opens(r: Row, state: u16, letter: u16, timer: u32) -> bool
     if r.input != letter {
         return false;
     }
-    replay::gaps::inside(r, timer)
+    let met = replay::gaps::test_guard(r, timer);
+    let Guard::Inside = met else {
+        return false;
+    };
+    true
 }
 
 // The lowest open transition, or count where there is none.

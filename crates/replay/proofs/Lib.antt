@@ -1,4 +1,5 @@
 pub mod WordLaws
+pub mod GuardLaws
 pub mod GapLaws
 pub mod HoleLaws
 pub mod LaidLaws

@@ -1,9 +1,7 @@
 -- Two outcomes that replay's contract allows are equal, and how late a response can be due.
 use mathlib.Core.Path.{_≡_, refl, sym, ap, subst, _∙_}
-use mathlib.Core.Logic.{dite}
 use mathlib.Core.List.{List, _++_, map}
 use Prim.Native.Nat.{ℕ, _≤_, _<_}
-use native.Mathlib.Decide.{decLt, ℕ-discrete}
 use native.Mathlib.Omega.{arith}
 use lib.ListN.{length, getD, drop, length-map, List·getD-append}
 use Rattle.model.specs.Answers.{Fields}
@@ -11,26 +9,20 @@ use Rattle.model.specs.Table.{Transition, Machine}
 use Rattle.model.specs.Trace.{steps}
 use Rattle.model.specs.Word.{Word}
 use Rattle.model.specs.Order.{Response, response}
-use Rattle.model.specs.Stamps.{gapsFrom, wordFrom}
+use Rattle.model.specs.Stamps.{wordFrom}
 use Rattle.model.proofs.Lists.{in-at, getD-map}
 use Rattle.model.proofs.Conversion.{ordered-only, conversion-only}
 use Rattle.model.proofs.Limits.{due-512}
 use Rattle.model.proofs.Paths.{length-steps}
 use Rattle.table.specs.declared.Table.{Table}
-use Rattle.table.specs.declared.Refusal.{Refusal}
-use Rattle.table.specs.Refusal.{refusalNumber, refusalPlace}
-use Rattle.table.specs.Rows.{machineOf, named}
-use Rattle.table.specs.Tests.{Test, Passes, Fails}
+use Rattle.table.specs.Rows.{machineOf}
+use Rattle.table.specs.Tests.{Test, Passes}
 use Rattle.table.proofs.RefusalLaws.{refusal-some, refused-only}
-use Rattle.table.proofs.TestLaws.{Numbered, passes-fails, fails-only, answered-done, answered-refused, answered-only}
+use Rattle.table.proofs.TestLaws.{Numbered, answered-done, answered-only}
 use Rattle.replay.specs.declared.Replayed.{Replayed}
 use Rattle.replay.specs.declared.Replayed.the-variants.{Played, Refused}
-use Rattle.replay.specs.declared.Judged.{Judged}
-use Rattle.replay.specs.declared.Judged.the-variants.{Unfit, Stopped, Inside}
-use Rattle.replay.specs.Judge.{Judges}
-use Rattle.replay.specs.Play.{replayedFields, gapTests, replayTests, Plays, PlayOutcome, ReplayOutcome}
-use Rattle.replay.specs.Tried.{Tried}
-use Rattle.replay.specs.Laid.{Laid, Sizes, WordRun}
+use Rattle.replay.specs.Play.{replayedFields, replayTests, Plays, PlayOutcome, ReplayOutcome}
+use Rattle.replay.specs.Laid.{Laid, WordRun}
 use Rattle.replay.proofs.WordLaws.{parts-of}
 use Rattle.replay.proofs.LaidLaws.{conversion-length}
 use Rattle.replay.proofs.ReplayLaws.{replay-numbered, all-first, passed-handed, passed-ranged}
@@ -46,9 +38,6 @@ replayed-only (Refused r) (Refused s) e = ap Refused (refused-only r s e)
 module _ {tests : List Test} {tr : List Transition} {w : Word} {order due : List ℕ → Type 0} {Kept : Type 0} where
   pub played : Numbered tests → PlayOutcome tests tr w order due Kept (replayedFields Played) → Passes tests × Plays tr w order due
   played n x = let r = answered-done n (λ h k. omega arith) x in (r .0, r .1 .1)
-
-  pub unplayed : (r : Refusal) → PlayOutcome tests tr w order due Kept (replayedFields (Refused r)) → Fails tests (refusalNumber r) (refusalPlace r) × Kept
-  unplayed r x = answered-refused (λ d. omega (arith, refusal-some r, ap (λ f. f .status) (d .0))) x
 
   -- one number and its values, and the same memory where it is kept, and where the same numbers stand in it
   pub play-only : {order' due' : List ℕ → Type 0} {Kept' R : Type 0} {f g : Fields} → (Kept → Kept' → R)
@@ -142,50 +131,6 @@ module _ (m : Machine) (trace : List ℕ) (start : ℕ) (stamps o₀ d₀ o d : 
       (due-512 (passed-ranged m trace start stamps o₀ d₀ (all-first m trace start stamps o₀ d₀ plays-tested)) word (plays .activates) (getD order i 0) (parts-of tr start stamps)
       (omega (arith, passed-handed m trace start stamps o₀ d₀ (all-first m trace start stamps o₀ d₀ plays-tested) .most, length-steps (m .transitions) trace)) (known i h))
 
--- the lengths fit or they don't
-by-sizes : (trace stamps o₀ d₀ : List ℕ) {C : Type 0} → (Sizes trace stamps o₀ d₀ → C) → ((Sizes trace stamps o₀ d₀ → ⊥) → C) → C
-by-sizes trace stamps o₀ d₀ fit unfit =
-    dite (decLt 512 (length trace)) (λ h. unfit (λ s. omega (arith, s .most)))
-    (λ a. dite (decLt (length o₀) (length trace)) (λ h. unfit (λ s. omega (arith, s .order-room)))
-    (λ b. dite (decLt (length d₀) (length trace)) (λ h. unfit (λ s. omega (arith, s .due-room)))
-    (λ c. dite (ℕ-discrete (length stamps) (length trace))
-    (λ e. fit (record { most = omega arith; stamped = e; order-room = omega arith; due-room = omega arith }))
-    (λ n. unfit (λ s. n (s .stamped))))))
-
--- the tests of the gaps give one mark
-marks-equal : (tr : List Transition) (gaps : List ℕ) {k k' : ℕ} → Tried tr gaps k → Tried tr gaps k' → k ≡ k'
-marks-equal tr gaps {k} {k'} a b =
-    let tests : List Test = gapTests 0 tr gaps in
-    dite (decLt 0 k)
-    (λ h. dite (decLt 0 k')
-    (λ h'. fails-only tests 9 k 9 k' (a .outside (omega arith)) (b .outside (omega arith)) .1)
-    (λ n. absurd (passes-fails tests 9 k (b .inside (omega arith)) (a .outside (omega arith)))))
-    (λ n. dite (decLt 0 k')
-    (λ h'. absurd (passes-fails tests 9 k' (a .inside (omega arith)) (b .outside (omega arith))))
-    (λ n'. omega arith))
-
--- there is one answer of what is told of a word
-module _ (c trace : List ℕ) (start : ℕ) (stamps : List ℕ) (orders dues : ℕ) where
-  abbrev Said : Judged → Type 0
-  Said = Judges c trace start stamps orders dues
-
-  abbrev Mark : ℕ → Type 0
-  Mark = Tried (named c trace) (gapsFrom start stamps)
-
-  one-mark : {s s' : ℕ} → Mark s → Mark s' → s ≡ s'
-  one-mark x y = marks-equal (named c trace) (gapsFrom start stamps) x y
-
-  pub judged-only : (j j' : Judged) → Said j → Said j' → j ≡ j'
-  judged-only Unfit Unfit x y = refl
-  judged-only Unfit (Stopped s) x y = absurd (x (y .0))
-  judged-only Unfit Inside x y = absurd (x (y .0))
-  judged-only (Stopped s) Unfit x y = absurd (y (x .0))
-  judged-only (Stopped s) (Stopped s') x y = ap Stopped (one-mark (x .2) (y .2))
-  judged-only (Stopped s) Inside x y = absurd (omega (arith, x .1, one-mark (x .2) (y .1)))
-  judged-only Inside Unfit x y = absurd (y (x .0))
-  judged-only Inside (Stopped s) x y = absurd (omega (arith, y .1, one-mark (x .1) (y .2)))
-  judged-only Inside Inside x y = refl
-
 -- there is one layout
 laid-only : {time : ℕ → ℕ} {n : ℕ} {o₀ d₀ o d o' d' : List ℕ} → Laid time n o₀ d₀ o d → Laid time n o₀ d₀ o' d' → (o ≡ o') × (d ≡ d')
 laid-only {time} {n} x y =
@@ -193,14 +138,9 @@ laid-only {time} {n} x y =
     ∙ sym (ordered-only time n (record { sorted = y .sorted; exact = y .exact })) in
     (x .orders ∙ rw e (sym (y .orders)), x .dues ∙ rw e (sym (y .dues)))
 
--- two runs of one word are equal: its mark, the order and the due times
-pub word-run-only : {cells trace : List ℕ} {start : ℕ} {stamps o₀ d₀ : List ℕ} {k k' : ℕ} {o d o' d' : List ℕ} → WordRun cells trace start stamps o₀ d₀ k o d
-    → WordRun cells trace start stamps o₀ d₀ k' o' d' → (k ≡ k') × (o ≡ o') × (d ≡ d')
-word-run-only {cells} {trace} {start} {stamps} {o₀} {d₀} {k} {k'} x y =
-    by-sizes trace stamps o₀ d₀
-    (λ s.
-    let e : k ≡ k' = marks-equal (named cells trace) (gapsFrom start stamps) (x .tried s) (y .tried s) in
-    dite (decLt 0 k)
-    (λ h. let a = x .kept (omega arith) in let b = y .kept (omega arith) in (e, a .0 ∙ sym (b .0), a .1 ∙ sym (b .1)))
-    (λ n. let l = laid-only (x .laid s (omega arith)) (y .laid s (omega arith)) in (e, l .0, l .1)))
-    (λ s. let a = x .unfit s in let b = y .unfit s in (a .0 ∙ sym (b .0), a .1 ∙ sym (b .1), a .2 ∙ sym (b .2)))
+-- two runs of one word are equal: its answer, the order and the due times
+pub word-run-only : {cells trace : List ℕ} {start : ℕ} {stamps o₀ d₀ : List ℕ} {f g : Fields} {o d o' d' : List ℕ} → WordRun cells trace start stamps o₀ d₀ f o d
+    → WordRun cells trace start stamps o₀ d₀ g o' d' → (f ≡ g) × (o ≡ o') × (d ≡ d')
+word-run-only {f = f} {g = g} {o} {d} {o'} {d'} x y =
+    answered-only {R = (f ≡ g) × (o ≡ o') × (d ≡ d')} (λ e k l. (e, k .0 ∙ sym (l .0), k .1 ∙ sym (l .1)))
+    (λ p q. let l = laid-only (p .1) (q .1) in (p .0 ∙ sym (q .0), l .0, l .1)) (x .says) (y .says)

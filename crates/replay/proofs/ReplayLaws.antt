@@ -4,8 +4,8 @@ use mathlib.Core.Logic.{inl, inr}
 use mathlib.Core.List.{List}
 use Prim.Native.Nat.{ℕ, _≤_}
 use native.Mathlib.Omega.{arith}
-use lib.ListN.{length, drop}
-use Rattle.model.specs.Answers.{Fields}
+use lib.ListN.{length, take, drop}
+use Rattle.model.specs.Answers.{Fields, fields}
 use Rattle.model.specs.Lists.{All}
 use Rattle.model.specs.Table.{Transition, Machine, InRange, Valid}
 use Rattle.model.specs.Trace.{Handed, steps}
@@ -15,24 +15,21 @@ use Rattle.model.specs.Stamps.{gapsFrom, wordFrom}
 use Rattle.model.proofs.Paths.{length-steps}
 use Rattle.table.specs.declared.Table.{Table}
 use Rattle.table.specs.declared.Refusal.{Refusal}
-use Rattle.table.specs.declared.Refusal.the-variants.{Uneven, NoRoom, Outside}
+use Rattle.table.specs.declared.Refusal.the-variants.{NoTrace, Uneven, NoRoom}
 use Rattle.table.specs.declared.Checked.{Checked}
 use Rattle.table.specs.declared.Checked.the-variants as checked
 use Rattle.table.specs.Refusal.{refusedFields, checkedFields}
 use Rattle.table.specs.Rows.{named, machineOf}
-use Rattle.table.specs.Tests.{Test, Passes, refuses, answers, Tested, afterTable}
-use Rattle.table.proofs.TestLaws.{passes-append, fails-back, Numbered, numbered-append, tested-passes, tested-front, passes-valid}
+use Rattle.table.specs.Tests.{Test, Passes, Fails, Answered, refuses, answers, Tested, afterTable}
+use Rattle.table.proofs.NamedLaws.{length-named}
+use Rattle.table.proofs.TestLaws.{passes-append, fails-back, Numbered, numbered-append, tested-passes, tested-fails, tested-front, passes-valid}
 use Rattle.trace.specs.Handed.{handedTests}
 use Rattle.trace.proofs.TraceLaws.{named-in, handed-ranged}
 use Rattle.replay.specs.declared.Replayed.the-variants.{Played, Refused}
-use Rattle.replay.specs.declared.Judged.{Judged}
-use Rattle.replay.specs.declared.Judged.the-variants.{Unfit, Stopped, Inside}
 use Rattle.replay.specs.Play.{replayedFields, ownTests, gapTests, replayTests, ReplayOutcome}
-use Rattle.replay.specs.Tried.{Tried}
-use Rattle.replay.specs.Judge.{Judges}
-use Rattle.replay.specs.Laid.{Laid, counted, LaidOut, SizesIn, Sizes, WordRun}
+use Rattle.replay.specs.Laid.{Laid, counted, LaidOut, SizesIn, wordTests, WordRun}
 use Rattle.replay.proofs.WordLaws.{parts-of, fits-activates}
-use Rattle.replay.proofs.GapLaws.{gaps-numbered, gaps-law}
+use Rattle.replay.proofs.GapLaws.{gaps-numbered, gaps-refuse, gaps-law}
 use Rattle.replay.proofs.LaidLaws.{plain-laid, laid, laid-converts, laid-orders, laid-dues}
 
 -- each way out of the tests that look at no gap
@@ -104,32 +101,61 @@ module _ (m : Machine) (trace : List ℕ) (start : ℕ) (stamps o₀ d₀ : List
         (passed-stamped all-first ∙ sym (length-steps (m .transitions) trace))
         (gaps-law (gapsFrom start stamps) (steps (m .transitions) trace) .0 (passes-append first last .0 p .1))
 
--- what is told of a single word, with so many places in two buffers
-module _ (c trace : List ℕ) (start : ℕ) (stamps : List ℕ) {orders dues : ℕ} where
-  pub inside-sizes : {j : Judged} → j ≡ Inside → Judges c trace start stamps orders dues j → SizesIn trace stamps orders dues
-  inside-sizes e t = (rw e at t) .0
+-- one word on transitions that nobody tested, with so many places in two buffers
+module _ (c trace : List ℕ) (start : ℕ) (stamps : List ℕ) (orders dues : ℕ) where
+  abbrev wordGaps : List Test
+  wordGaps = gapTests 0 (named c trace) (gapsFrom start stamps)
 
-  -- and each way out of it
+  abbrev words : List Test
+  words = wordTests c trace start stamps orders dues
+
+  word-numbered : Numbered words
+  word-numbered = (omega arith, omega arith, (omega arith, omega arith, (omega arith, omega arith, gaps-numbered (gapsFrom start stamps) 0 (named c trace))))
+
+  -- each way out of its tests
+  pub word-long : (length trace ≤ 512 → ⊥) → Tested words (refusedFields NoTrace)
+  word-long n = refuses refl (inl (n, refl, refl)) tt
+
+  module _ (most : length trace ≤ 512) where
+    pub word-uneven : (length stamps ≡ length trace → ⊥) → Tested words (refusedFields Uneven)
+    word-uneven n = refuses refl (inr (most, inl (n, refl, refl))) tt
+
+    module _ (e : length stamps ≡ length trace) where
+      pub word-cramped : ((length trace ≤ orders) × (length trace ≤ dues) → ⊥) → Tested words (refusedFields NoRoom)
+      word-cramped n = refuses refl (inr (most, inr (e, inl (n, refl, refl)))) tt
+
+      pub word-gaps : (length trace ≤ orders) × (length trace ≤ dues) → {f : Fields} → Tested wordGaps f → Tested words f
+      word-gaps r (refuses z b k) = refuses z (inr (most, inr (e, inr (r, b)))) k
+      word-gaps r (answers p d) = answers (most, (e, (r, p))) d
+
+  -- played or not by what they told
+  pub told-sizes : {a : Checked} → a ≡ checked.Sound → Tested words (checkedFields a) → SizesIn trace stamps orders dues
+  told-sizes e x =
+      let p : Passes words = tested-passes words word-numbered e x in
+      record { most = p .0; stamped = p .1 .0; order-room = p .1 .1 .0 .0; due-room = p .1 .1 .0 .1 }
+
   module _ (o₀ d₀ : List ℕ) (eo : length o₀ ≡ orders) (ed : length d₀ ≡ dues) where
-    abbrev Run : ℕ → List ℕ → List ℕ → Type 0
-    Run = WordRun c trace start stamps o₀ d₀
+    pub refused-run : {a : Checked} {r : Refusal} → a ≡ checked.Refused r → Tested words (checkedFields a)
+        → WordRun c trace start stamps o₀ d₀ (replayedFields (Refused r)) o₀ d₀
+    refused-run e x = record { says = refuses refl (rw (eo, ed) (tested-fails words e x)) (refl, refl) }
 
-    pub unfit-run : {j : Judged} → j ≡ Unfit → Judges c trace start stamps orders dues j → Run 0 o₀ d₀
-    unfit-run e t =
-        let n : Sizes trace stamps o₀ d₀ → ⊥ = rw (eo, ed) (rw e at t) in
-        record { tried = λ z. absurd (n z); laid = λ z. absurd (n z); kept = λ h. (refl, refl); unfit = λ z. (refl, refl, refl) }
+    pub played-run : {a : Checked} {o d : List ℕ} → a ≡ checked.Sound → Tested words (checkedFields a) → LaidOut c trace start stamps o₀ d₀ o d
+        → WordRun c trace start stamps o₀ d₀ (replayedFields Played) o d
+    played-run e x l = record { says = answers (rw (eo, ed) (tested-passes words word-numbered e x)) (refl, l) }
 
-    pub stopped-run : {j : Judged} {s : ℕ} → j ≡ Stopped s → Judges c trace start stamps orders dues j → Run s o₀ d₀
-    stopped-run e t =
-        let k = rw e at t in
-        let z : Sizes trace stamps o₀ d₀ = rw (eo, ed) (k .0) in
-        record { tried = λ y. k .2; laid = λ y z. absurd (omega (arith, k .1)); kept = λ y. (refl, refl); unfit = λ n. absurd (n z) }
-
-    pub played-run : {j : Judged} {o d : List ℕ} → j ≡ Inside → Judges c trace start stamps orders dues j → LaidOut c trace start stamps o₀ d₀ o d → Run 0 o d
-    played-run e t l =
-        let k = rw e at t in
-        let z : Sizes trace stamps o₀ d₀ = rw (eo, ed) (k .0) in
-        record { tried = λ y. k .1; laid = λ y x. l; kept = λ y. absurd (omega arith); unfit = λ n. absurd (n z) }
+-- the place that a word's refusal names is a step, or 0
+pub word-place : {c trace : List ℕ} {start : ℕ} {stamps o₀ d₀ : List ℕ} {f : Fields} {o d : List ℕ} → WordRun c trace start stamps o₀ d₀ f o d
+    → f .first ≤ 512
+word-place {c} {trace} {start} {stamps} {o₀} {d₀} {f} {o} {d} run = place (run .says)
+  where
+    place : Answered (wordTests c trace start stamps (length o₀) (length d₀))
+        (λ f. (f ≡ fields 0 0 0 0) × LaidOut c trace start stamps o₀ d₀ o d) ((o ≡ o₀) × (d ≡ d₀)) f → f .first ≤ 512
+    place (answers p x) = rw (x .0) (omega arith)
+    place (refuses z (inl x) k) = rw z (omega (arith, x .2))
+    place (refuses z (inr (most, inl x)) k) = rw z (omega (arith, x .2))
+    place (refuses z (inr (most, inr (e, inl x))) k) = rw z (omega (arith, x .2))
+    place (refuses {n = n} {p = p} z (inr (most, inr (e, inr (r, x)))) k) =
+        rw z (omega (arith, gaps-refuse (gapsFrom start stamps) 0 (named c trace) n p x .2, length-named c trace))
 
 -- a single word on the transitions that the code looks up, after the tests: the replay's own outcome
 module _ (t : Table) (trace : List ℕ) (start : ℕ) (stamps o₀ d₀ : List ℕ) (p : Passes (first (machineOf t) trace start stamps o₀ d₀)) where
@@ -142,46 +168,42 @@ module _ (t : Table) (trace : List ℕ) (start : ℕ) (stamps o₀ d₀ : List �
   same : named (t .cells) trace ≡ tr
   same = named-in t trace (passed-valid own trace start stamps o₀ d₀ p) (passed-handed own trace start stamps o₀ d₀ p)
 
-  sizes : Sizes trace stamps o₀ d₀
-  sizes = record {
-    most = passed-handed own trace start stamps o₀ d₀ p .most;
-    stamped = passed-stamped own trace start stamps o₀ d₀ p;
-    order-room = p .1 .1 .1 .1 .1 .0 .0;
-    due-room = p .1 .1 .1 .1 .1 .0 .1;
-  }
+  -- the lengths that a word is tested for fit
+  sized : Passes (take 3 (wordTests (t .cells) trace start stamps (length o₀) (length d₀)))
+  sized = (passed-handed own trace start stamps o₀ d₀ p .most, (passed-stamped own trace start stamps o₀ d₀ p, (p .1 .1 .1 .1 .1 .0, tt)))
 
-  module _ {s : ℕ} {o d : List ℕ} (run : WordRun (t .cells) trace start stamps o₀ d₀ s o d) where
-    here : Tried tr (gapsFrom start stamps) s
-    here = rw same at (run .tried sizes)
+  abbrev Run : Fields → List ℕ → List ℕ → Type 0
+  Run f o d =
+      Answered (wordTests (t .cells) trace start stamps (length o₀) (length d₀))
+      (λ f. (f ≡ fields 0 0 0 0) × LaidOut (t .cells) trace start stamps o₀ d₀ o d) ((o ≡ o₀) × (d ≡ d₀)) f
 
-    pub refuses-gap : 1 ≤ s → ReplayOutcome own trace start stamps o₀ d₀ (replayedFields (Refused (Outside s))) o d
-    refuses-gap h =
-        refuses refl
-        (fails-back (first own trace start stamps o₀ d₀) (last own trace start stamps o₀ d₀) 9 s p .1 (here .outside h)) (run .kept h)
-
-    passes : s ≡ 0 → Passes (replayTests own trace start stamps o₀ d₀)
-    passes z = passes-append (first own trace start stamps o₀ d₀) (last own trace start stamps o₀ d₀) .1 (p, here .inside z)
-
-    -- nothing wraps
-    plain : s ≡ 0 → Laid (due tr (wordFrom tr start stamps)) (length tr) o₀ d₀ o d
-    plain z =
-        let e : length trace ≡ length tr = sym (length-steps (own .transitions) trace) in
-        let k : Laid (counted tr (wordFrom tr start stamps)) (length trace) o₀ d₀ o d = rw same at (run .laid sizes z) in
-        plain-laid tr (wordFrom tr start stamps) (passed-ranged own trace start stamps o₀ d₀ p) (rw (← e) (sizes .most)) (parts-of tr start stamps)
-        (all-activates own trace start stamps o₀ d₀ (passes z)) (rw e at k)
-
-    pub plays : s ≡ 0 → ReplayOutcome own trace start stamps o₀ d₀ (replayedFields Played) o d
-    plays z =
-        let e : length tr ≡ length trace = length-steps (own .transitions) trace in
-        let w : Word = wordFrom tr start stamps in
-        let k : Laid (due tr w) (length trace) o₀ d₀ o d = rw e at (plain z) in
-        answers (passes z) (
-          refl,
-          record {
-            activates = all-activates own trace start stamps o₀ d₀ (passes z);
-            responses = laid tr w k;
-            converts = laid-converts tr w k e;
-            orders = laid-orders tr w k;
-            dues = laid-dues tr w k;
-          },
-        )
+  -- so what it is answered is what the replay answers
+  pub word-replay : {f : Fields} {o d : List ℕ} → WordRun (t .cells) trace start stamps o₀ d₀ f o d → ReplayOutcome own trace start stamps o₀ d₀ f o d
+  word-replay {f} {o} {d} run = replays (run .says)
+    where
+      replays : Run f o d → ReplayOutcome own trace start stamps o₀ d₀ f o d
+      replays (refuses {n = n} {p = i} z b k) =
+          let lengths : List Test = take 3 (wordTests (t .cells) trace start stamps (length o₀) (length d₀)) in
+          let gaps : Fails (last own trace start stamps o₀ d₀) n i =
+          rw same at (fails-back lengths (gapTests 0 (named (t .cells) trace) (gapsFrom start stamps)) n i sized .0 b) in
+          refuses z (fails-back (first own trace start stamps o₀ d₀) (last own trace start stamps o₀ d₀) n i p .1 gaps) k
+      replays (answers q x) =
+          let w : Word = wordFrom tr start stamps in
+          let e : length tr ≡ length trace = length-steps (own .transitions) trace in
+          let all : Passes (replayTests own trace start stamps o₀ d₀) =
+          passes-append (first own trace start stamps o₀ d₀) (last own trace start stamps o₀ d₀) .1 (p, rw same at (q .1 .1 .1)) in
+          let k : Laid (counted tr w) (length trace) o₀ d₀ o d = rw same at (x .1) in
+          let plain : Laid (due tr w) (length tr) o₀ d₀ o d =
+          plain-laid tr w (passed-ranged own trace start stamps o₀ d₀ p) (rw e (sized .0)) (parts-of tr start stamps)
+          (all-activates own trace start stamps o₀ d₀ all) (rw (← e) at k) in
+          let m : Laid (due tr w) (length trace) o₀ d₀ o d = rw e at plain in
+          answers all (
+            x .0,
+            record {
+              activates = all-activates own trace start stamps o₀ d₀ all;
+              responses = laid tr w m;
+              converts = laid-converts tr w m e;
+              orders = laid-orders tr w m;
+              dues = laid-dues tr w m;
+            },
+          )

@@ -1,4 +1,3 @@
+pub mod Guards
 pub mod Play
-pub mod Tried
 pub mod Laid
-pub mod Judge

@@ -6,13 +6,16 @@ use lib.ListN.{length, getD, drop}
 use Rattle.model.specs.Answers.{Fields, fields}
 use Rattle.model.specs.Table.{Transition, Machine}
 use Rattle.model.specs.Trace.{Handed, steps}
-use Rattle.model.specs.Word.{Word, Fits, Activates}
+use Rattle.model.specs.Word.{Word, Activates}
 use Rattle.model.specs.Order.{Response, Conversion}
 use Rattle.model.specs.Stamps.{gapsFrom, wordFrom}
 use Rattle.table.specs.Refusal.{refusedFields}
 use Rattle.table.specs.Tests.{Test, unless, unlessAt, Answered, afterTable}
+use Rattle.replay.specs.declared.Guard.{Guard}
+use Rattle.replay.specs.declared.Guard.the-variants.{Early, Late}
 use Rattle.replay.specs.declared.Replayed.{Replayed}
 use Rattle.replay.specs.declared.Replayed.the-variants.{Played, Refused}
+use Rattle.replay.specs.Guards.{Meets, guardFields}
 
 abbrev pub replayedFields : Replayed → Fields
 replayedFields Played = fields 0 0 0 0
@@ -25,10 +28,14 @@ ownTests m trace stamps order₀ due₀ =
     unless 7 (length stamps ≡ length trace) ∷
     unless 8 ((length trace ≤ length order₀) × (length trace ≤ length due₀)) ∷ []
 
--- "a gap outside its guard", a test a step from place i on: "9 names the first such step", counted from 1
+-- unless a gap meets its guard so
+abbrev pub unlessMet : Guard → ℕ → Transition → ℕ → Test
+unlessMet c step t g = unlessAt (guardFields c step .status) (guardFields c step .first) (Meets c 256 t g → ⊥)
+
+-- "a gap outside its guard", two tests a step from place i on, early and late: the "first such step" is named, counted from 1
 abbrev pub gapTests : ℕ → List Transition → List ℕ → List Test
 gapTests i [] gaps = []
-gapTests i (t ∷ tr) gaps = unlessAt 9 (suc i) (Fits 256 t (getD gaps i 0)) ∷ gapTests (suc i) tr gaps
+gapTests i (t ∷ tr) gaps = unlessMet Early (suc i) t (getD gaps i 0) ∷ unlessMet Late (suc i) t (getD gaps i 0) ∷ gapTests (suc i) tr gaps
 
 abbrev pub replayTests : Machine → List ℕ → ℕ → List ℕ → List ℕ → List ℕ → List Test
 replayTests m trace start stamps order₀ due₀ =

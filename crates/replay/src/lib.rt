@@ -9,8 +9,7 @@ ghost use Rattle.model.specs.Stamps.{gapOf};
 ghost use Rattle.table.specs.Refusal.{checkedFields};
 ghost use Rattle.table.specs.Rows.{rowOf, machineOf};
 ghost use Rattle.table.specs.Tests.{afterTable, Tested};
-ghost use Rattle.replay.specs.Judge.{Judges};
-ghost use Rattle.replay.specs.Laid.{WordRun};
+ghost use Rattle.replay.specs.Laid.{wordTests, WordRun};
 ghost use Rattle.replay.specs.Play.{replayedFields, ownTests, ReplayOutcome};
 
 pub mod gaps;
@@ -21,11 +20,11 @@ pub enum Replayed {
     Refused(Refusal),
 }
 
-// What is told of a word before it is played.
-pub enum Judged {
-    Unfit,
-    Stopped(u16),
+// Where a gap stands to the guard of its step.
+pub enum Guard {
     Inside,
+    Early,
+    Late,
 }
 
 // When a step arrives and when it is due, in 1/256 tick since the start.
@@ -64,27 +63,25 @@ pub fn judge_word(
     stamps: &[u32],
     orders: usize,
     dues: usize,
-) -> Judged
-    ensures { λ r. ⌜ Judges (now (cells .entry)) (now (trace .entry)) start (now (stamps .entry)) orders dues r ⌝ }
+) -> Checked
+    ensures { λ r. ⌜ Tested
+        (wordTests (now (cells .entry)) (now (trace .entry)) start (now (stamps .entry)) orders dues)
+        (checkedFields r) ⌝ }
 {
     let n = trace.len();
     if 512 < n {
-        return Judged::Unfit;
+        return Checked::Refused(Refusal::NoTrace);
     }
     if stamps.len() != n {
-        return Judged::Unfit;
+        return Checked::Refused(Refusal::Uneven);
     }
     if orders < n {
-        return Judged::Unfit;
+        return Checked::Refused(Refusal::NoRoom);
     }
     if dues < n {
-        return Judged::Unfit;
+        return Checked::Refused(Refusal::NoRoom);
     }
-    let outside = gaps::first_outside(cells, trace, start, stamps);
-    if 0 < outside {
-        return Judged::Stopped(outside as u16);
-    }
-    Judged::Inside
+    gaps::first_outside(cells, trace, start, stamps)
 }
 
 // When a step of that transition arrives and when it is due, by the arrival and the stamp before it, on a counter that wraps.
@@ -100,8 +97,7 @@ pub fn timed(cells: &Cells, step: u16, arrival: u32, before: u32, stamp: u32) ->
     }
 }
 
-// One word on transitions that nobody tested: its steps laid out and 0; or the first step outside its guard, and nothing is written.
-// Where the lengths do not fit nothing is looked at.
+// One word on transitions that nobody tested: its steps laid out, or refused and nothing written.
 pub fn play_word(
     cells: &Cells,
     trace: &[u16],
@@ -109,18 +105,26 @@ pub fn play_word(
     stamps: &[u32],
     order: &mut [u16],
     due: &mut [u32],
-) -> u16
-    ensures { λ mark. ⌜ WordRun
+) -> Replayed
+    ensures { λ r. ⌜ WordRun
         (now (cells .entry)) (now (trace .entry)) start (now (stamps .entry)) (now (order .entry)) (now (due .entry))
-        mark (now (order .exit)) (now (due .exit)) ⌝ }
+        (replayedFields r) (now (order .exit)) (now (due .exit)) ⌝ }
 {
-    match judge_word(cells, trace, start, stamps, order.len(), due.len()) {
-        Judged::Unfit => 0,
-        Judged::Stopped(step) => step,
-        Judged::Inside => {
-            responses::play(cells, trace, start, stamps, order, due);
-            0
-        }
+    let told = judge_word(cells, trace, start, stamps, order.len(), due.len());
+    if let Checked::Refused(r) = told {
+        return Replayed::Refused(r);
+    }
+    responses::play(cells, trace, start, stamps, order, due);
+    Replayed::Played
+}
+
+// The mark of a word: the step that its refusal names, or 0. As 16 bits show it: no word has more than 512 steps.
+pub fn mark(r: Replayed) -> u16
+    ensures { λ m. ⌜ m ≡ replayedFields r .first % 2 ^ 16 ⌝ }
+{
+    match r {
+        Replayed::Played => 0,
+        Replayed::Refused(x) => (table::place(x) % 65536) as u16,
     }
 }
 
@@ -140,9 +144,5 @@ pub fn replay(
     if let Checked::Refused(r) = tested(t, trace, stamps, order, due) {
         return Replayed::Refused(r);
     }
-    let mark = play_word(&t.cells, trace, start, stamps, order, due);
-    if 0 < mark {
-        return Replayed::Refused(Refusal::Outside(mark as usize));
-    }
-    Replayed::Played
+    play_word(&t.cells, trace, start, stamps, order, due)
 }

@@ -62,7 +62,7 @@ path-few m trace h = omega (arith, h .1 .most, length-steps (m .transitions) (wh
 
 gaps-fit : (i : ℕ) (tr : List Transition) (gaps : List ℕ) → i + length tr ≤ 512 → EachFits (gapTests i tr gaps)
 gaps-fit i [] gaps h = tt
-gaps-fit i (t ∷ tr) gaps h = (omega arith, omega arith, λ g. gaps-fit (suc i) tr gaps (omega arith))
+gaps-fit i (t ∷ tr) gaps h = (omega arith, omega arith, λ e. (omega arith, omega arith, λ g. gaps-fit (suc i) tr gaps (omega arith)))
 
 -- "The longest file has 4,620 bytes."
 file-few : (file : List ℕ) → Bytes file → (m : Machine) → readFile file ≡ machine m → length file ≤ 4620

@@ -1,23 +1,20 @@
 // A night of words.
 use night::Words;
 use replay::Replayed;
-use table::Refusal;
 use table::Table;
 
-// The answer of the single replay that a mark stands for.
-fn answer_of(mark: usize) -> Replayed {
-    if mark == 0 {
-        return Replayed::Played;
-    }
-    Replayed::Refused(Refusal::Outside(mark))
-}
-
-// A word, counted from 1, by its own places, as its single replay is printed.
+// A word, counted from 1, by its own places, as its single replay is printed; of a refused one its mark alone is known, the step.
 fn say_word(w: usize, mark: usize, order: &[u16], due: &[u32]) {
     saying::say(b"word ");
     saying::number(w);
     saying::say(b" ");
-    crate::plays::say_played(answer_of(mark), order, due, order.len());
+    if mark == 0 {
+        crate::plays::say_played(Replayed::Played, order, due, order.len());
+        return;
+    }
+    saying::say(b"outside at ");
+    saying::number(mark);
+    crate::rest::say_rest(order, 0, due, 0);
 }
 
 // The words on n places each; of many only the last is shown.

@@ -5,14 +5,16 @@ use Prim.Native.Nat.{ℕ, _≤_}
 use native.Mathlib.Omega.{arith}
 use lib.ListN.{getD}
 use Rattle.table.specs.declared.Refusal.{Refusal}
-use Rattle.table.specs.declared.Refusal.the-variants.{Cut, Misplaced, Full, OutOfRange, Repeated, NoTrace, Uneven, NoRoom, Outside}
+use Rattle.table.specs.declared.Refusal.the-variants.{Cut, Misplaced, Full, OutOfRange, Repeated, NoTrace, Uneven, NoRoom, Early, Late}
 use Rattle.table.specs.declared.Checked.{Checked}
 use Rattle.table.specs.declared.Checked.the-variants.{Sound, Refused}
 use Rattle.table.specs.Refusal.{refusalNumber, refusalPlace, refusedFields, checkedFields}
 
 -- the case of a number and a place
 made : ℕ → ℕ → Refusal
-made n p = getD (NoTrace ∷ Cut p ∷ Misplaced p ∷ Full p ∷ OutOfRange p ∷ Repeated p ∷ NoTrace ∷ Uneven ∷ NoRoom ∷ Outside p ∷ []) n NoTrace
+made n p =
+    getD (NoTrace ∷ Cut p ∷ Misplaced p ∷ Full p ∷ OutOfRange p ∷ Repeated p ∷ NoTrace ∷ Uneven ∷ NoRoom ∷ Early p ∷ NoTrace ∷ NoTrace ∷ Late p ∷ [])
+    n NoTrace
 
 made-is : (r : Refusal) → made (refusalNumber r) (refusalPlace r) ≡ r
 unfolding made
@@ -24,7 +26,8 @@ made-is (Repeated p) = refl
 made-is NoTrace = refl
 made-is Uneven = refl
 made-is NoRoom = refl
-made-is (Outside p) = refl
+made-is (Early p) = refl
+made-is (Late p) = refl
 
 pub refusal-only : (r s : Refusal) → refusalNumber r ≡ refusalNumber s → refusalPlace r ≡ refusalPlace s → r ≡ s
 refusal-only r s e f = sym (made-is r) ∙ rw (e, f) (made-is s)
@@ -39,7 +42,8 @@ refusal-some (Repeated p) = omega arith
 refusal-some NoTrace = omega arith
 refusal-some Uneven = omega arith
 refusal-some NoRoom = omega arith
-refusal-some (Outside p) = omega arith
+refusal-some (Early p) = omega arith
+refusal-some (Late p) = omega arith
 
 -- equal fields of two refusals
 pub refused-only : (r s : Refusal) → refusedFields r ≡ refusedFields s → r ≡ s

@@ -11,7 +11,7 @@ pub mod ranges;
 pub mod rows;
 pub mod seen;
 
-// Document 01's refusals, each with the place that it names.
+// Refusals of more calls than the player's, each with the place that it names.
 pub enum Refusal {
     Cut(usize),
     Misplaced(usize),
@@ -21,7 +21,8 @@ pub enum Refusal {
     NoTrace,
     Uneven,
     NoRoom,
-    Outside(usize),
+    Early(usize),
+    Late(usize),
 }
 
 // A transition on its own.
@@ -64,7 +65,8 @@ pub fn number(r: Refusal) -> u16
         Refusal::NoTrace => 6,
         Refusal::Uneven => 7,
         Refusal::NoRoom => 8,
-        Refusal::Outside(_) => 9,
+        Refusal::Early(_) => 9,
+        Refusal::Late(_) => 12,
     }
 }
 
@@ -81,7 +83,8 @@ pub fn place(r: Refusal) -> usize
         Refusal::NoTrace => 0,
         Refusal::Uneven => 0,
         Refusal::NoRoom => 0,
-        Refusal::Outside(step) => step,
+        Refusal::Early(step) => step,
+        Refusal::Late(step) => step,
     }
 }
 

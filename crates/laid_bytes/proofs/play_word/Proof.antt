@@ -2,44 +2,32 @@
 use borrow.Author.Needs.{needs}
 use Rattle.wire.specs.Bytes.{wholes}
 use Rattle.places.proofs.PlaceLaws.{length-wholes}
-use Rattle.replay.proofs.ReplayLaws.{unfit-run, stopped-run, inside-sizes, played-run}
+use Rattle.replay.proofs.ReplayLaws.{told-sizes, refused-run, played-run}
 use Rattle.laid_bytes.proofs.OnPlacesLaws.{on-same, on-told}
 use Rattle.laid_bytes.proofs.play_word.Statement.{statement}
 use Rattle.laid_bytes.proofs.play_word.Tie as tie
 
-play-requires : tie.Need-play-requires
-play-requires c κs =
-    let p = c .before .before .before .before in
-    let a = p .before .before .before .before .before .args in
-    inside-sizes (a .cells .now) (a .trace .now) (a .start) (a .stamps .now) (c .before .before .enum-told2 .given .1) (p .judge-word .ensures)
-
 returns : tie.Need-returns
 returns c =
-    let p = c .before .before in
-    let a = p .before .before .before .before .before .args in
-    on-same
-    (unfit-run (a .cells .now) (a .trace .now) (a .start) (a .stamps .now) (wholes 2 (a .order .now)) (wholes 4 (a .due .now))
-    (length-wholes 2 (a .order .now)) (length-wholes 4 (a .due .now)) (c .enum-told .given .1) (p .judge-word .ensures))
-
-returns-2 : tie.Need-returns-2
-returns-2 c =
     let p = c .before .before .before in
     let a = p .before .before .before .before .before .args in
     on-same
-    (stopped-run (a .cells .now) (a .trace .now) (a .start) (a .stamps .now) (wholes 2 (a .order .now)) (wholes 4 (a .due .now))
-    (length-wholes 2 (a .order .now)) (length-wholes 4 (a .due .now)) (c .before .step .given .1) (p .judge-word .ensures))
+    (refused-run (a .cells .now) (a .trace .now) (a .start) (a .stamps .now) _ _ (wholes 2 (a .order .now)) (wholes 4 (a .due .now))
+    (length-wholes 2 (a .order .now)) (length-wholes 4 (a .due .now)) (c .before .told .given .1) (p .judge-word .ensures))
 
-returns-3 : tie.Need-returns-3
-returns-3 c =
+play-requires : tie.Need-play-requires
+play-requires c κs = told-sizes _ _ _ _ _ _ (c .before .before .enum-told .given .1) (c .before .before .before .before .judge-word .ensures)
+
+returns-2 : tie.Need-returns-2
+returns-2 c =
     let e = c .before .before .before .before .before .before .before in
     let p = e .before .before in
     let a = p .before .before .before .before .before .args in
     on-told (c .before .before .before .before .play .ensures)
-    (played-run (a .cells .now) (a .trace .now) (a .start) (a .stamps .now) (wholes 2 (a .order .now)) (wholes 4 (a .due .now))
-    (length-wholes 2 (a .order .now)) (length-wholes 4 (a .due .now)) (e .enum-told2 .given .1) (p .judge-word .ensures))
+    (played-run (a .cells .now) (a .trace .now) (a .start) (a .stamps .now) _ _ (wholes 2 (a .order .now)) (wholes 4 (a .due .now))
+    (length-wholes 2 (a .order .now)) (length-wholes 4 (a .due .now)) (e .enum-told .given .1) (p .judge-word .ensures))
 
 pub play-word-spec : {M : Type 1} → statement M
 play-word-spec =
     tie.close
-    (tie.spec (λ c κs. search needs) (λ c. search needs) (λ c. search needs) (λ c. search needs) play-requires returns returns-2 (λ c. search needs)
-    (λ c. search needs) returns-3)
+    (tie.spec (λ c κs. search needs) (λ c. search needs) returns (λ c. search needs) play-requires (λ c. search needs) (λ c. search needs) returns-2)

@@ -77,6 +77,9 @@ part-play-word-end-3 c = let h = lent (c .before .before .before) in search need
 play-word-requires : tie.Need-play-word-requires Inv-loop μ-loop
 play-word-requires c κs = search needs
 
+mark-requires : tie.Need-mark-requires Inv-loop μ-loop
+mark-requires c κs = search needs
+
 mul-marks : tie.Need-mul-marks Inv-loop μ-loop
 mul-marks c = search needs
 
@@ -91,11 +94,11 @@ loop-less c = search needs
 
 loop-again : tie.Need-loop-again Inv-loop μ-loop
 loop-again c =
-    let s = c .before .before .before .before .before .before .before .before .before .before .before .before .before .before .before .before .before in
+    let s = c .before .before .before .before .before .before .before .before .before .before .before .before .before .before .before .before .before .before in
     let a = s .args in
     let room = s .pre .1 in
-    let l = c .before .before .before .before .before .before .before .before .before .before .loop in
-    let one = c .before .before .before .before .play-word in (
+    let l = c .before .before .before .before .before .before .before .before .before .before .before .loop in
+    let one = c .before .before .before .before .before .play-word in (
       omega arith,
       omega (arith, next-end (l .w) (length (a .trace .now))),
       search needs,
@@ -104,7 +107,7 @@ loop-again c =
       one-run (a .cells .now) (a .trace .now) (a .starts .now) (a .stamps .now) (a .order .now) (a .due .now) (a .marks .now)
           (l .w) (l .at) (l .order) (l .due) (l .marks) (l .inv .5) (l .inv .1) (omega arith)
           (omega (arith, room .order-room)) (omega (arith, room .due-room)) (omega (arith, room .marks-room))
-          (one .result) (one .kept .1 .1 .1 .1 .0) (one .kept .1 .1 .1 .1 .1 .0) (one .ensures),
+          (c .mark .result) (one .kept .1 .1 .1 .1 .0) (one .kept .1 .1 .1 .1 .1 .0) (one .ensures) (c .mark .ensures),
     )
 
 same-length : tie.Need-same-length Inv-loop μ-loop
@@ -146,6 +149,7 @@ play-all-spec =
     part-play-word-start-3
     part-play-word-end-3
     play-word-requires
+    mark-requires
     mul-marks
     slice-write-marks
     add-w

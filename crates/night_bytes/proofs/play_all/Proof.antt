@@ -83,6 +83,9 @@ slice-aggregate-play-one c = search needs
 play-one-requires : tie.Need-play-one-requires Inv-loop μ-loop
 play-one-requires c κs = search needs
 
+mark-requires : tie.Need-mark-requires Inv-loop μ-loop
+mark-requires c κs = search needs
+
 mul-put-twos : tie.Need-mul-put-twos Inv-loop μ-loop
 mul-put-twos c = search needs
 
@@ -94,7 +97,7 @@ put-twos-requires c κs = search needs
 
 add-w : tie.Need-add-w Inv-loop μ-loop
 add-w c =
-    let p = c .before .before .before .before .before .before .before .before .before .before .before .before .before .before .before .before in
+    let p = c .before .before .before .before .before .before .before .before .before .before .before .before .before .before .before .before .before in
     let h : p .before .loop .w + 1 ≤ length (p .before .before .before .before .before .before .before .before .args .starts .now) = omega arith in
     search needs
 
@@ -103,7 +106,8 @@ loop-less c = search needs
 
 loop-again : tie.Need-loop-again Inv-loop μ-loop
 loop-again c =
-    let p = c .before .before .before .before .before .before .before .before .before .before in
+    let k = c .before .before .before .before .before in
+    let p = k .before .before .before .before .before .before in
     let h = lent (p .before .before .before .before .before .before) in
     let l = p .before .before .before .before .before .before .before .loop in
     let s = p .before .before .before .before .before .before .before .before .before .before .before .before .before .before in
@@ -126,7 +130,7 @@ loop-again c =
       search needs,
       one-written (a .cells .now) (a .trace .now) (a .starts .now) (a .stamps .now) (a .order .now) (a .due .now) (a .marks .now)
           (length (a .starts .now) / 4) (l .w) (l .two) (l .four) (l .order) (l .due) (l .marks) (l .inv .7) (l .inv .1) (l .inv .2) (omega arith) room
-          (p .play-one .result) (p .before .before .before .before .before .four .ensures) (p .play-one .kept .1 .1 .1 .1 .0) (p .play-one .kept .1 .1 .1 .1 .1 .0) (c .before .before .put-twos .ensures) (p .play-one .ensures),
+          (k .mark .result) (p .before .before .before .before .before .four .ensures) (p .play-one .kept .1 .1 .1 .1 .0) (p .play-one .kept .1 .1 .1 .1 .1 .0) (c .before .before .put-twos .ensures) (p .play-one .ensures) (k .mark .ensures),
     )
 
 same-length : tie.Need-same-length Inv-loop μ-loop
@@ -169,6 +173,7 @@ play-all-spec =
     part-play-one-end-3
     slice-aggregate-play-one
     play-one-requires
+    mark-requires
     mul-put-twos
     slice-aggregate-put-twos
     put-twos-requires

@@ -1,8 +1,6 @@
 use borrow.Author.Needs.{needs}
-use native.Mathlib.Omega.{arith}
 use Rattle.table.specs.Rows.{machineOf}
-use Rattle.table.specs.Tests.{Passes}
-use Rattle.replay.proofs.ReplayLaws.{first, refuses-first, passes-first, refuses-gap, plays}
+use Rattle.replay.proofs.ReplayLaws.{refuses-first, passes-first, word-replay}
 use Rattle.replay.proofs.replay.Statement.{statement}
 use Rattle.replay.proofs.replay.Tie as tie
 
@@ -30,39 +28,19 @@ enum-told c = search needs
 play-word-requires : tie.Need-play-word-requires
 play-word-requires c κs = search needs
 
-cast-t22 : tie.Need-cast-t22
-cast-t22 c = search needs
-
 same-length-3 : tie.Need-same-length-3
 same-length-3 c = search needs
 
 same-length-4 : tie.Need-same-length-4
 same-length-4 c = search needs
 
--- the tests that look at no gap passed
-passed : (p : tie.After-enum-told) → let a = p .before .before .before .before .before .before .before .before .before .args in Passes (first (machineOf (a .t1)) (a .trace .now) (a .start) (a .stamps .now) (a .order .now) (a .due .now))
-passed p =
-    let a = p .before .before .before .before .before .before .before .before .before .args in
-    passes-first (machineOf (a .t1)) (a .trace .now) (a .start) (a .stamps .now) (a .order .now) (a .due .now)
-    (p .enum-told .given .1) (p .before .before .tested .ensures)
-
 returns-2 : tie.Need-returns-2
 returns-2 c =
-    let a = c .before .before .before .before .before .before .before .before .before .before .before .before .before .before .before .before .before .before .before .args in
-    refuses-gap (a .t1) (a .trace .now) (a .start) (a .stamps .now) (a .order .now) (a .due .now)
-    (passed (c .before .before .before .before .before .before .before .before .before .before)) (c .before .before .before .before .before .play-word .ensures) (omega arith)
-
-same-length-5 : tie.Need-same-length-5
-same-length-5 c = search needs
-
-same-length-6 : tie.Need-same-length-6
-same-length-6 c = search needs
-
-returns-3 : tie.Need-returns-3
-returns-3 c =
-    let a = c .before .before .before .before .before .before .before .before .before .before .before .before .before .before .before .before .before .before .before .args in
-    plays (a .t1) (a .trace .now) (a .start) (a .stamps .now) (a .order .now) (a .due .now)
-    (passed (c .before .before .before .before .before .before .before .before .before .before)) (c .before .before .before .before .before .play-word .ensures) (omega arith)
+    let p = c .before .before .before .before .before .before .before .before .before in
+    let a = p .before .before .before .before .before .before .before .before .before .args in
+    word-replay (a .t1) (a .trace .now) (a .start) (a .stamps .now) (a .order .now) (a .due .now)
+    (passes-first (machineOf (a .t1)) (a .trace .now) (a .start) (a .stamps .now) (a .order .now) (a .due .now)
+    (p .enum-told .given .1) (p .before .before .tested .ensures)) (c .before .before .before .before .play-word .ensures)
 
 pub replay-spec : {M : Type 1} → statement M
 replay-spec =
@@ -75,10 +53,6 @@ replay-spec =
     returns
     enum-told
     play-word-requires
-    cast-t22
     same-length-3
     same-length-4
-    returns-2
-    same-length-5
-    same-length-6
-    returns-3)
+    returns-2)

@@ -12,7 +12,7 @@ use Rattle.trace.specs.Named.{TraceIn}
 use Rattle.replay.specs.declared.Replayed.the-variants.{Refused}
 use Rattle.replay.specs.Play.{replayedFields}
 use Rattle.on_bytes.specs.Replays.{ReplayOnMachine}
-use Rattle.on_bytes.proofs.ByteLaws.{no-trace, untraced, WordAnswer, read-uneven, read-cramped, read-word}
+use Rattle.on_bytes.proofs.ByteLaws.{no-trace, untraced, read-uneven, read-cramped, read-word}
 use Rattle.on_bytes.proofs.replays.replay_on.Statement.{statement}
 use Rattle.on_bytes.proofs.replays.replay_on.Tie as tie
 
@@ -62,11 +62,8 @@ returns-3 c = cramps (c .before) (λ e. omega arith)
 returns-4 : tie.Need-returns-4
 returns-4 c = cramps (c .before .before) (λ e. omega arith)
 
-plays : (c : tie.After-slice-known4) → let w = c .before .before .before .before .play-word in
-    let r = c .before .before .before .before .before .before .before .before .before .before .before .before .before in let a = r .before .before .before .before .before .before .before .before .before .before .before .before .args in
-    WordAnswer (heldIn (a .read) (a .cells .now)) (a .trace .now) (a .start) (a .stamps .now) (a .order .now) (a .due .now) (w .result)
-    (w .last .1 .1 .1 .1 .0) (w .last .1 .1 .1 .1 .1 .0)
-plays c =
+returns-5 : tie.Need-returns-5
+returns-5 c =
     let e = c .before .before .before .before .before .before .before .before .before in
     let r = e .before .before .before .before in
     let p = r .before .before in
@@ -80,16 +77,9 @@ plays c =
     (λ i. k .before .slice-known .given i .fits) (λ i. k .slice-known2 .given i .fits) (λ i. c .before .before .slice-known3 .given i .fits)
     (λ i. c .slice-known4 .given i .fits) (c .before .before .before .before .play-word .ensures)
 
-returns-5 : tie.Need-returns-5
-returns-5 c = plays (c .before) .stopped (omega arith)
-
-returns-6 : tie.Need-returns-6
-returns-6 c = plays (c .before) .played (omega arith)
-
 pub replay-on-spec : {M : Type 1} → statement M
 replay-on-spec =
     tie.close
     (tie.spec (λ c. search needs) (λ c κs. search needs) (λ c. search needs) (λ c. simp length-take (omega arith)) (λ c κs. search needs) returns
     (λ c. search needs) (λ c κs. search needs) returns-2 returns-3 returns-4 (λ c. search needs) (λ c. simp length-take (omega arith))
-    (λ c. search needs) (λ c. simp length-take (omega arith)) (λ c κs. search needs) (λ c. search needs) (λ c. search needs) (λ c. search needs)
-    returns-5 (λ c. search needs) (λ c. search needs) returns-6)
+    (λ c. search needs) (λ c. simp length-take (omega arith)) (λ c κs. search needs) (λ c. search needs) (λ c. search needs) returns-5)

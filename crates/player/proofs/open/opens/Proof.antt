@@ -1,7 +1,7 @@
 use borrow.Author.Needs.{needs}
 use native.Mathlib.Omega.{arith}
-use Rattle.table.specs.Rows.{said}
-use Rattle.player.proofs.OpenLaws.{opens-told}
+use Rattle.replay.proofs.GuardLaws.{not-inside}
+use Rattle.player.proofs.OpenLaws.{opens-inside, shut-outside}
 use Rattle.player.proofs.open.opens.Statement.{statement}
 use Rattle.player.proofs.open.opens.Tie as tie
 
@@ -11,13 +11,17 @@ returns c = search needs
 returns-2 : tie.Need-returns-2
 returns-2 c = search needs
 
-inside-requires : tie.Need-inside-requires
-inside-requires c κs = search needs
+test-guard-requires : tie.Need-test-guard-requires
+test-guard-requires c κs = search needs
+
+enum-told : tie.Need-enum-told
+enum-told c = search needs
 
 returns-3 : tie.Need-returns-3
-returns-3 c =
-    let a = c .before .before .before .before .before .args in
-    opens-told (said (a .r)) (a .state) (a .letter) (a .timer) (c .inside .result) (omega arith) (omega arith) (c .inside .ensures)
+returns-3 c = shut-outside (c .before .test-guard .result) (not-inside (c .before .test-guard .result) (c .match .keys2)) (c .before .test-guard .ensures)
+
+returns-4 : tie.Need-returns-4
+returns-4 c = opens-inside (omega arith) (omega arith) (c .enum-told .given .1) (c .before .before .test-guard .ensures)
 
 pub opens-spec : {M : Type 1} → statement M
-opens-spec = tie.close (tie.spec returns returns-2 inside-requires returns-3)
+opens-spec = tie.close (tie.spec returns returns-2 test-guard-requires enum-told returns-3 returns-4)

@@ -1,15 +1,13 @@
 use borrow.Author.Needs.{needs}
 use native.Mathlib.Omega.{arith}
-use mathlib.Core.Path.{_≡_}
-use mathlib.Core.Bool.{true, false}
-use Prim.Native.Nat.{_+_, _≤_, _<_, _-_}
+use Prim.Native.Nat.{_≤_, _-_}
 use lib.ListN.{length, getD}
-use borrow.Author.Tests.{not-true, not-false}
+use Rattle.model.specs.Table.{at}
 use Rattle.model.specs.Stamps.{gapsFrom}
-use Rattle.model.proofs.AnswerLaws.{told, untold}
 use Rattle.table.specs.Rows.{named}
-use Rattle.replay.specs.Tried.{Tried}
-use Rattle.replay.proofs.GapLaws.{Passed, none-passed, all-passed, fits-here, one-passed, stopped}
+use Rattle.replay.specs.Guards.{Meets}
+use Rattle.replay.proofs.GuardLaws.{not-inside}
+use Rattle.replay.proofs.GapLaws.{Passed, none-passed, all-passed, meets-here, one-passed, stopped}
 use Rattle.replay.proofs.gaps.first_outside.Statement.{statement}
 use Rattle.replay.proofs.gaps.first_outside.Tie as tie
 
@@ -34,31 +32,36 @@ step-row-requires c κs = search needs
 gap-requires : tie.Need-gap-requires Inv-loop μ-loop
 gap-requires c κs = search needs
 
-inside-requires : tie.Need-inside-requires Inv-loop μ-loop
-inside-requires c κs = search needs
+test-guard-requires : tie.Need-test-guard-requires Inv-loop μ-loop
+test-guard-requires c κs = search needs
 
--- the gap at i, tested against its guard, goes on or stops
-after-inside : (p : tie.After-inside Inv-loop μ-loop)
+enum-told : tie.Need-enum-told Inv-loop μ-loop
+enum-told c = search needs
+
+-- what the guard of the step at i answered to its gap
+meets : (p : tie.After-test-guard Inv-loop μ-loop)
     → let a = p .before .before .before .before .before .before .before .before .args in
     let l = p .before .before .before .before .before .loop in
-    (p .inside .result ≡ true → Passed (named (a .cells .now) (a .trace .now)) (a .start) (a .stamps .now) (getD (a .stamps .now) (l .i) 0) (l .i + 1))
-    × (p .inside .result ≡ false → Tried (named (a .cells .now) (a .trace .now)) (gapsFrom (a .start) (a .stamps .now)) (l .i + 1))
-after-inside p =
+    Meets (p .test-guard .result) 256 (at (named (a .cells .now) (a .trace .now)) (l .i)) (getD (gapsFrom (a .start) (a .stamps .now)) (l .i) 0)
+meets p =
     let a = p .before .before .before .before .before .before .before .before .args in
     let l = p .before .before .before .before .before .loop in
-    let e : length (a .stamps .now) ≡ length (a .trace .now) = omega arith in
-    let h : l .i < length (a .trace .now) = omega arith in
-    let t = fits-here (a .cells .now) (a .trace .now) (a .start) (a .stamps .now) e (l .inv .1) h (p .inside .result)
-    (p .before .before .step-row .ensures) (p .before .gap .ensures) (p .inside .ensures) in (
-      λ q. one-passed (a .cells .now) (a .trace .now) (a .start) (a .stamps .now) e (l .inv .1) h (told (p .inside .result) t q),
-      λ q. stopped (a .cells .now) (a .trace .now) (a .start) (a .stamps .now) e (l .inv .1) h (untold (p .inside .result) t q),
-    )
+    meets-here (a .cells .now) (a .trace .now) (a .start) (a .stamps .now) (omega arith) (l .inv .1) (omega arith) (p .test-guard .result)
+    (p .before .before .step-row .ensures) (p .before .gap .ensures) (p .test-guard .ensures)
 
-add-result : tie.Need-add-result Inv-loop μ-loop
-add-result c = search needs
+add-passed-on : tie.Need-add-passed-on Inv-loop μ-loop
+add-passed-on c = search needs
+
+passed-on-requires : tie.Need-passed-on-requires Inv-loop μ-loop
+passed-on-requires c κs = search needs
 
 returns : tie.Need-returns Inv-loop μ-loop
-returns c = after-inside (c .before) .1 (not-true _ (c .if1 .taken))
+returns c =
+    let p = c .before .before in
+    let a = p .before .before .before .before .before .before .before .before .args in
+    let l = p .before .before .before .before .before .loop in
+    stopped (a .cells .now) (a .trace .now) (a .start) (a .stamps .now) (omega arith) (l .inv .1) (omega arith) (p .test-guard .result)
+    (not-inside (p .test-guard .result) (c .before .match .keys2)) (c .passed-on .ensures) (meets p)
 
 add-i : tie.Need-add-i Inv-loop μ-loop
 add-i c = search needs
@@ -67,7 +70,14 @@ loop-less : tie.Need-loop-less Inv-loop μ-loop
 loop-less c = search needs
 
 loop-again : tie.Need-loop-again Inv-loop μ-loop
-loop-again c = (omega arith, after-inside (c .before) .0 (not-false _ (c .if1 .left)))
+loop-again c =
+    let p = c .before .before in
+    let a = p .before .before .before .before .before .before .before .before .args in
+    let l = p .before .before .before .before .before .loop in (
+      omega arith,
+      one-passed (a .cells .now) (a .trace .now) (a .start) (a .stamps .now) (omega arith) (l .inv .1) (omega arith)
+          (rw (c .enum-told .given .1) at (meets p)),
+    )
 
 returns-2 : tie.Need-returns-2 Inv-loop μ-loop
 returns-2 c =
@@ -85,8 +95,10 @@ first-outside-spec =
     shared-slice-read-stamp
     step-row-requires
     gap-requires
-    inside-requires
-    add-result
+    test-guard-requires
+    enum-told
+    add-passed-on
+    passed-on-requires
     returns
     add-i
     loop-less
