@@ -14,7 +14,6 @@ use Rattle.model.specs.Table.{Transition, at}
 use Rattle.model.specs.Trace.{Trace, steps}
 use Rattle.model.specs.Span.{span}
 use Rattle.model.proofs.CriterionLaws.{above-is}
-use Rattle.criterion.specs.declared.Goal.{Goal}
 use Rattle.criterion.specs.declared.Goal.the-variants.{Overtakes}
 use Rattle.walks.specs.Walks.{Seen, Followed, Starts}
 use Rattle.soonest.specs.Soonest.{Due, Settled, SettledTo, Real, Soonest, Lowered}
@@ -110,10 +109,6 @@ module _ {ts : List Transition} where
     starts-here {dist} g h =
         let a : 1 ≤ getD dist (at ts k .from) 0 = rw (z .here) g in
         record { arrives = record { known = z .known; to = refl; leaves = a }; after = is-sooner h }
-
--- it leaves a state that is not marked
-pub not-marked : {ts : List Transition} {k : ℕ} {t : Transition} → Seen ts k t → (goal : Goal) (dist : List ℕ) → getD dist (t .from) 0 ≡ 0 → Starts goal ts dist k → ⊥
-not-marked z goal dist h s = let l = rw (z .here) at (s .arrives .leaves) in omega arith
 
 -- a loop over the transitions, which tells whether any made a number less
 abbrev pub Round : List Transition → List ℕ → ℕ → Bool → List ℕ → Type 0

@@ -1,5 +1,4 @@
-pub mod OvertakenLaws
-pub mod NextLaws
+pub mod LetterLaws
 pub mod KeptLaws
 pub mod RunLaws
 pub mod TableLaws

@@ -10,7 +10,6 @@ ghost use Rattle.starts.specs.Rows.{Covers};
 
 mod kept;
 mod letters;
-mod next;
 mod search;
 mod sums;
 
@@ -53,13 +52,8 @@ fn by_table(cells: &Cells, count: usize, dist: &[u16; 32]) -> Found
 pub fn lowest_turning(cells: &Cells, count: usize, dist: &[u16; 32]) -> Found
     ensures { λ r. ⌜ LowestStart Turns (now (cells .entry)) count (now (dist .entry)) r ⌝ }
 {
-    // What turns is overtaken: where nothing can be, nothing is searched.
-    let Found::At(k) = soonest::lowest_overtaken(cells, count, dist) else {
+    if !table::in_limits(cells, count) {
         return Found::Nothing;
-    };
-    // Nothing below k turns: if k does with one right after it, no table is needed.
-    if next::at_once(cells, count, k) {
-        return Found::At(k);
     }
     by_table(cells, count, dist)
 }

@@ -41,7 +41,7 @@ module _ {c : List ℕ} {n : ℕ} (sound : Sound c n) {initial : ℕ} {dist via 
 
   order-decided : {r : OnOrder} {trace stamps : List ℕ} → Shown c n dist via trace₀ stamps₀ r trace stamps → Decided m trace₀ stamps₀ r trace stamps
   order-decided (shown-none w) =
-      let o = words-nothing Overtakes sound reach states w in
+      let o = words-nothing Overtakes sound reach states places w in
       says-none refl (λ t. let y = overtakes-walk-law m v .0 t in o .2 (y .0) (y .1)) (o .0, o .1)
   order-decided (shown-word {n = k} w) =
       let x = words-stand Overtakes sound reach states places stamp-places w in

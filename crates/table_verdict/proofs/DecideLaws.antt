@@ -84,7 +84,7 @@ module _ {c : List ℕ} {n : ℕ} (sound : Sound c n) {initial : ℕ} {dist via 
       pub turn-decided : {r : OnTable} {trace stamps : List ℕ} → 270 ≤ length trace₀ → 540 ≤ length stamps₀
           → TurnJudged c n dist via trace₀ stamps₀ r trace stamps → Decided m trace₀ stamps₀ r trace stamps
       turn-decided places stamp-places (turns-not w) =
-          let o = words-nothing Turns sound reach states w in
+          let o = words-nothing Turns sound reach states places w in
           says-none refl (record { unsplit = none-splits; steady = λ t. let y = table-walk-law m v .0 t in o .2 (y .0) (y .1) }) (o .0, o .1)
       turn-decided places stamp-places (turns-from {n = k} w) =
           let x = words-stand Turns sound reach states places stamp-places w in

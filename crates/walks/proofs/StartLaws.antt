@@ -6,16 +6,17 @@ use Prim.Native.Nat.{ℕ, _≤_}
 use native.Mathlib.Decide.{decLt}
 use native.Mathlib.Omega.{arith}
 use lib.ListN.{getD}
-use Rattle.model.specs.Table.{Machine, at}
+use Rattle.model.specs.Table.{Transition, Machine, at}
 use Rattle.model.specs.Trace.{Reached}
 use Rattle.model.specs.Criterion.{WalkFrom}
 use Rattle.criterion.specs.declared.Goal.{Goal}
+use Rattle.criterion.specs.declared.Goal.the-variants.{Turns, Overtakes}
 use Rattle.criterion.specs.Goals.{Meets}
 use Rattle.table.specs.Rows.{rows}
 use Rattle.table.specs.Fit.{Sound}
 use Rattle.walks.specs.declared.Found.{Found}
 use Rattle.walks.specs.declared.Found.the-variants.{At, Nothing}
-use Rattle.walks.specs.Walks.{Starts, Least, LowestStart}
+use Rattle.walks.specs.Walks.{Seen, Followed, Starts, Least, LowestStart}
 use Rattle.walks.proofs.OutcomeLaws.{least-only}
 
 -- the answer for cells within their limits, from and to the least start
@@ -31,6 +32,31 @@ module _ (goal : Goal) (c : List ℕ) (n : ℕ) (dist : List ℕ) where
 -- two outcomes of a search for the lowest start are equal
 pub lowest-only : (goal : Goal) (c : List ℕ) (n : ℕ) (dist : List ℕ) (r q : Found) → LowestStart goal c n dist r → LowestStart goal c n dist q → r ≡ q
 lowest-only goal c n dist = least-only (λ k. Sound c n × Starts goal (rows c n) dist k)
+
+-- a transition that leaves a state without a mark starts nothing
+pub not-marked : {ts : List Transition} {k : ℕ} {t : Transition} → Seen ts k t → (goal : Goal) (dist : List ℕ) → getD dist (t .from) 0 ≡ 0 → Starts goal ts dist k → ⊥
+not-marked z goal dist h s = let l = rw (z .here) at (s .arrives .leaves) in omega arith
+
+-- what turns is overtaken
+starts-overtaken : (goal : Goal) {ts : List Transition} {dist : List ℕ} {k : ℕ} → Starts goal ts dist k → Starts Overtakes ts dist k
+starts-overtaken Turns p =
+    let t = p .after .to in
+    record {
+      arrives = p .arrives;
+      after = record { m = p .after .m; to = record { rest = t .rest; end = t .end; walk = t .walk; meets = t .meets .above } };
+    }
+starts-overtaken Overtakes p = p
+
+pub none-overtaken : (goal : Goal) {c : List ℕ} {n : ℕ} {dist : List ℕ} → LowestStart Overtakes c n dist Nothing → LowestStart goal c n dist Nothing
+none-overtaken goal l x p = l x (p .0, starts-overtaken goal (p .1))
+
+-- what is overtaken first is the lowest start of what it starts
+pub first-overtaken : (goal : Goal) {c : List ℕ} {n : ℕ} {dist : List ℕ} {k : ℕ} → LowestStart Overtakes c n dist (At k) → Followed goal (rows c n) k
+    → LowestStart goal c n dist (At k)
+first-overtaken goal l f = (
+  (l .0 .0, record { arrives = l .0 .1 .arrives; after = f }),
+  λ x h p. l .1 x h (p .0, starts-overtaken goal (p .1)),
+)
 
 -- where the marks tell which states can be reached, a start is a walk of what is asked
 module _ (goal : Goal) (m : Machine) (dist : List ℕ) (meant : (s : ℕ) → (1 ≤ getD dist s 0) ↔ Reached (m .transitions) (m .initial) s) where

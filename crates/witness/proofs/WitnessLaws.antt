@@ -1,12 +1,12 @@
 -- What the shown trace proves of the machine, where the numbers are within their limits and the marks are those of its states.
 use mathlib.Core.Path.{_≡_, refl, sym, ap, _∙_}
-use mathlib.Core.Logic.{inl, ⊎-elim, dite, _↔_}
+use mathlib.Core.Bool.{Bool, true, false}
+use mathlib.Core.Logic.{inl, ⊎-elim, _↔_}
 use mathlib.Core.List.{List, [], _∷_, _++_, append-assoc}
 use Prim.Native.Nat.{ℕ, suc, _+_, _-_, _≤_, _<_}
-use native.Mathlib.Decide.{decLt}
 use native.Mathlib.Omega.{arith}
 use lib.ListN.{length, getD, take, drop, length-append, length-take, length-drop, List·getD-append}
-use lib.Seq.{getD-append-seam, take-at}
+use lib.Seq.{getD-append-seam, take-at, drop-at, drop-append-add, drop-drop}
 use Rattle.model.specs.Lists.{over}
 use Rattle.model.specs.Table.{Transition, Machine, Valid, at}
 use Rattle.model.specs.Trace.{steps}
@@ -23,6 +23,7 @@ use Rattle.table.specs.Refusal.{checkedFields}
 use Rattle.table.specs.Tests.{unless, CheckOutcome, Tested, refuses, answers}
 use Rattle.table.specs.Fit.{Sound as Fit}
 use Rattle.table.proofs.TestLaws.{refused-fails, valid-fails, valid-passes, passes-valid, tested-passes}
+use Rattle.table.proofs.FitLaws.{row-said}
 use Rattle.table.proofs.RowLaws.{length-rows}
 use Rattle.table.proofs.NamedLaws.{named-trace}
 use Rattle.words.specs.Left.{Bounded}
@@ -31,17 +32,18 @@ use Rattle.criterion.specs.declared.Goal.{Goal}
 use Rattle.criterion.specs.declared.Goal.the-variants.{Turns, Overtakes}
 use Rattle.criterion.specs.Goals.{Meets}
 use Rattle.reach.specs.Reach.{Reach, WayStands, mark, wayWithin}
-use Rattle.reach.proofs.ReachLaws.{way-fresh, way-length, within-room, within-short}
+use Rattle.reach.proofs.ReachLaws.{way-fresh, way-length, within-room}
 use Rattle.reach.proofs.OnlyLaws.{way-only}
 use Rattle.walks.specs.declared.Found.{Found}
 use Rattle.walks.specs.declared.Found.the-variants.{At, Nothing}
 use Rattle.walks.specs.Walks.{LowestStart, ShownLeast, WalkOutcome}
-use Rattle.walks.proofs.OutcomeLaws.{write-walk-agree}
-use Rattle.walks.proofs.StartLaws.{lowest-within, lowest-only, lowest-met, lowest-unmet}
+use Rattle.walks.proofs.OutcomeLaws.{walks-agree}
+use Rattle.walks.proofs.StartLaws.{lowest-within, lowest-only, lowest-met, lowest-unmet, none-overtaken, first-overtaken}
 use Rattle.witness.specs.declared.Witness.{Witness}
 use Rattle.witness.specs.declared.Witness.the-variants.{Shown, Nothing as NoWitness}
-use Rattle.witness.specs.Witness.{searchTests, goalLeft, goalStamps, goalRoom, ShownOutcome, words-none, words-stepless, words-shown, WordsStand}
-use Rattle.witness.specs.Witness.{WitnessesAgree, agree-none, agree-shown, WitnessOutcome, none-shown, one-shown, wayFor, machineWith, ShowsPair, PairStands}
+use Rattle.witness.specs.Witness.{searchTests, goalLeft, goalStamps, goalRoom, ShownOutcome, words-none, words-shown, WordsStand}
+use Rattle.witness.specs.Witness.{Marked, FromStands, FromOutcome, from-none, from-shown, WitnessOutcome, none-shown, none-fits, one-shown}
+use Rattle.witness.specs.Witness.{WitnessesAgree, agree-none, agree-shown, wayFor, machineWith, ShowsPair, PairStands}
 use Rattle.witness.proofs.WayLaws.{way-number, way-short, way-traced, one-long, way-front, behind-way}
 
 -- by the words' definition, where what is asked is the criterion of a pair
@@ -102,36 +104,120 @@ no-witness e = absurd (omega (arith, ap kind e))
     kind (Shown a b) = 1
     kind NoWitness = 0
 
+-- the way, where it has room
+way-room : {c dist via : List ℕ} {s : ℕ} {trace₀ one : List ℕ} {b : ℕ} → mark dist s - 1 ≤ length trace₀ → WayStands c dist via s trace₀ one b
+    → (b ≡ mark dist s - 1) × (length one ≡ length trace₀)
+way-room {c} {dist} {via} {s} {trace₀} {one} {b} h w =
+    let e : b ≡ mark dist s - 1 = w .number
+    ∙ rw (within-room c dist via s (length trace₀) h) (way-length (λ i. said (rowOf c i)) via (mark dist s - 1) s) in
+    (e, ap length (w .traced) ∙ simp (length-append, length-drop) (omega (arith, w .number)))
+
 -- what is written has room, whatever the marks
-walk-long : (goal : Goal) {c : List ℕ} {n k p : ℕ} {old out : List ℕ} {more : ℕ} → p ≤ length old → WalkOutcome goal c n k p old out more
-    → (p + more ≤ length old) × (length out ≡ length old)
-walk-long goal {p = p} {old = old} {more = more} h o = ⊎-elim
-    (λ x.
-    let w = x .1 .walk in (
-      omega (arith, x .0 .room, w .few),
-      ap length (w .traced) ∙ simp (length-append, length-take, length-drop) (omega (arith, x .0 .room, w .few, w .number)),
-    ))
-    (λ x. (omega (arith, x .1), ap length (x .2))) o
-
-way-long : {c dist via : List ℕ} {s : ℕ} {trace₀ one : List ℕ} {b : ℕ} → WayStands c dist via s trace₀ one b → (b ≤ length trace₀) × (length one ≡ length trace₀)
-way-long {c} {dist} {via} {s} {trace₀} {one} {b} w =
-    let l : length (wayWithin c dist via s (length trace₀)) ≤ length trace₀ =
-    dite (decLt (length trace₀) (mark dist s - 1)) (λ h. rw (within-short c dist via s (length trace₀) h) (omega arith))
-    (λ h. rw (within-room c dist via s (length trace₀) (omega arith)) (omega (arith, way-length (λ i. said (rowOf c i)) via (mark dist s - 1) s))) in
-    (omega (arith, w .number), ap length (w .traced) ∙ simp (length-append, length-drop) (omega (arith, w .number)))
-
-pub added : (goal : Goal) {c : List ℕ} {n k : ℕ} {dist via : List ℕ} {s : ℕ} {trace₀ one out : List ℕ} {b more : ℕ} → WayStands c dist via s trace₀ one b
-    → WalkOutcome goal c n k b one out more → b + more ≤ length trace₀
-added goal way walk = let y = way-long way in omega (arith, y, walk-long goal (omega arith) walk)
+pub from-long : {goal : Goal} {c : List ℕ} {n : ℕ} {dist via : List ℕ} {k : ℕ} {trace₀ : List ℕ} {b more : ℕ} {trace : List ℕ}
+    → FromStands goal c n dist via k trace₀ b more trace → (2 ≤ more) × (b + more ≤ length trace₀) × (length trace ≡ length trace₀)
+from-long f =
+    let y = way-room (omega (arith, f .room)) (f .way) in
+    let w = f .walk .walk in (
+      omega (arith, w .number),
+      omega (arith, y, f .room, w .few),
+      ap length (w .traced) ∙ simp (length-append, length-take, length-drop) (omega (arith, y, f .room, w .few, w .number)),
+    )
 
 pub shown-long : (goal : Goal) {c : List ℕ} {n : ℕ} {dist via trace₀ : List ℕ} {r : Witness} {b all : ℕ} {trace : List ℕ} → r ≡ Shown b all
-    → WitnessOutcome goal c n dist via trace₀ r trace → (b ≤ all) × (all ≤ length trace) × (length trace ≡ length trace₀)
+    → WitnessOutcome goal c n dist via trace₀ r trace → (b + 2 ≤ all) × (all ≤ length trace) × (length trace ≡ length trace₀)
 shown-long goal e (none-shown l) = absurd (no-witness e)
-shown-long goal e (one-shown {n = s} {more = more} k low way walk) =
-    let y = way-long way in
-    let z = walk-long goal (omega arith) walk in
+shown-long goal e (none-fits k low none) = absurd (no-witness e)
+shown-long goal e (one-shown k low stands) =
+    let z = from-long stands in
     let f = shown-same e in
-    (omega (arith, f), omega (arith, f, y, z), omega (arith, y, z))
+    (omega (arith, f, z), omega (arith, f, z), z .2)
+
+-- the way before a walk that was written first
+pub way-before : (goal : Goal) {c : List ℕ} {n : ℕ} {dist via : List ℕ} {k : ℕ} {trace₀ mid trace : List ℕ} {b b' more : ℕ}
+    → b ≡ mark dist (rowOf c k .from) - 1 → b + 239 ≤ length trace₀ → ShownLeast goal (rows c n) k b trace₀ mid more
+    → WayStands c dist via (rowOf c k .from) mid trace b' → FromStands goal c n dist via k trace₀ b more trace
+way-before goal {c} {n} {dist} {via} {k} {trace₀} {mid} {trace} {b} {b'} {more} e room s w =
+    let v = s .walk in
+    let place = rowOf c k .from in
+    let shown : List ℕ = k ∷ (v .to .rest ++ (s .m ∷ [])) in
+    let long : length mid ≡ length trace₀ = ap length (v .traced) ∙ simp (length-append, length-take, length-drop) (omega (arith, room, v .few, v .number)) in
+    let h : mark dist place - 1 ≤ length trace₀ = omega (arith, e, room) in
+    let way : List ℕ = wayWithin c dist via place (length trace₀) in
+    let number : length way ≡ b =
+    rw (within-room c dist via place (length trace₀) h) (way-length (λ i. said (rowOf c i)) via (mark dist place - 1) place) ∙ sym e in
+    let one : List ℕ = way ++ drop b trace₀ in
+    let n' : b' ≡ b = way-room (omega (arith, long, h)) w .0 ∙ sym e in
+    let behind : drop b mid ≡ shown ++ drop (b + more) trace₀ =
+    ap (drop b) (v .traced) ∙ drop-at (take b trace₀) (shown ++ drop (b + more) trace₀) b (length-take b trace₀ ∙ omega (arith, room)) in
+    let past : drop (b + more) one ≡ drop (b + more) trace₀ =
+    rw (sym number) (drop-append-add way (drop (length way) trace₀) more ∙ drop-drop more (length way) trace₀) in
+    record {
+      one = one;
+      room = omega (arith, e, room);
+      way = record { number = sym number; traced = refl };
+      walk = record {
+        m = s .m;
+        walk = record {
+          to = v .to;
+          number = v .number;
+          few = v .few;
+          traced = (rw (long, n') at (w .traced)) ∙ rw (take-at way (drop b trace₀) b number, past, behind);
+        };
+        least = s .least;
+      };
+    }
+
+pub walked-few : {goal : Goal} {c : List ℕ} {n k p : ℕ} {old out : List ℕ} {more : ℕ} → WalkOutcome goal c n k p old out more → more ≤ 239
+walked-few o = ⊎-elim (λ x. x .1 .walk .few) (λ x. omega (arith, x .1)) o
+
+-- the walk that was tried, and the way before it if there is one
+module _ {goal : Goal} {c : List ℕ} {n : ℕ} {dist via : List ℕ} {k : ℕ} {trace₀ mid : List ℕ} {b more : ℕ} (e : b ≡ mark dist (rowOf c k .from) - 1)
+    (o : WalkOutcome goal c n k b trace₀ mid more) where
+  pub from-walked : {trace : List ℕ} {b' : ℕ} → (more ≡ 0 → ⊥) → WayStands c dist via (rowOf c k .from) mid trace b'
+      → FromStands goal c n dist via k trace₀ b more trace
+  from-walked some w = ⊎-elim (λ x. way-before goal e (x .0 .room) (x .1) w) (λ x. absurd (some (x .1))) o
+
+  pub from-unwalked : Fit c n → k < n → more ≡ 0 → FromOutcome goal c n dist via k trace₀ NoWitness mid
+  from-unwalked sound known none = ⊎-elim (λ x. absurd (omega (arith, none, x .1 .walk .number)))
+      (λ x. rw (x .2) (from-none (λ after h. x .0 (record { sound = sound; known = known; room = omega (arith, e, h); after = after })))) o
+
+-- a start that was found is one of the transitions, and leaves a marked state
+lowest-marked : {goal : Goal} {c : List ℕ} {n : ℕ} {dist : List ℕ} {k : ℕ} → LowestStart goal c n dist (At k) → Fit c n × Marked c dist n k
+lowest-marked {c = c} {n = n} {k = k} l =
+    let sound = l .0 .0 in
+    let known : k < n = omega (arith, l .0 .1 .arrives .known, length-rows c n) in
+    (sound, (known, rw (ap (λ (t : Transition). t .from) (row-said sound k known refl)) (l .0 .1 .arrives .leaves)))
+
+-- the lowest start, tried
+pub from-lowest : {goal : Goal} {c : List ℕ} {n : ℕ} {dist via : List ℕ} {k : ℕ} {trace₀ : List ℕ} {r : Witness} {trace : List ℕ}
+    → LowestStart goal c n dist (At k) → FromOutcome goal c n dist via k trace₀ r trace → WitnessOutcome goal c n dist via trace₀ r trace
+from-lowest l (from-none none) = none-fits _ l (λ h. none (l .0 .1 .after) h)
+from-lowest l (from-shown s) = one-shown _ l s
+
+-- what is tried: first what is overtaken first, last the lowest start
+abbrev pub Tried : Goal → List ℕ → ℕ → List ℕ → Bool → Found → Type 0
+Tried goal c n dist false r = LowestStart Overtakes c n dist r
+Tried goal c n dist true r = LowestStart goal c n dist r
+
+pub tried-none : (goal : Goal) {c : List ℕ} {n : ℕ} {dist : List ℕ} (last : Bool) → Tried goal c n dist last Nothing → LowestStart goal c n dist Nothing
+tried-none goal false l = none-overtaken goal l
+tried-none goal true l = l
+
+pub tried-marked : (goal : Goal) {c : List ℕ} {n : ℕ} (dist : List ℕ) {k : ℕ} (last : Bool) → Tried goal c n dist last (At k) → Fit c n × Marked c dist n k
+tried-marked goal dist false l = lowest-marked l
+tried-marked goal dist true l = lowest-marked l
+
+pub tried-shown : (goal : Goal) {c : List ℕ} {n : ℕ} {dist via : List ℕ} {k : ℕ} {trace₀ : List ℕ} {r : Witness} {b all : ℕ} {trace : List ℕ} (last : Bool)
+    → r ≡ Shown b all → Tried goal c n dist last (At k) → FromOutcome goal c n dist via k trace₀ r trace → WitnessOutcome goal c n dist via trace₀ r trace
+tried-shown goal last e l (from-none none) = absurd (no-witness e)
+tried-shown goal false e l (from-shown s) = one-shown _ (first-overtaken goal l (record { m = s .walk .m; to = s .walk .walk .to })) s
+tried-shown goal true e l (from-shown s) = one-shown _ l s
+
+-- where nothing was shown nothing was written
+pub from-nothing : {goal : Goal} {c : List ℕ} {n : ℕ} {dist via : List ℕ} {k : ℕ} {trace₀ : List ℕ} {r : Witness} {trace : List ℕ} → r ≡ NoWitness
+    → FromOutcome goal c n dist via k trace₀ r trace → trace ≡ trace₀
+from-nothing e (from-none none) = refl
+from-nothing e (from-shown s) = absurd (no-witness (sym e))
 
 module _ (goal : Goal) {c : List ℕ} {n : ℕ} (sound : Fit c n) {initial : ℕ} {dist via : List ℕ} (reach : Reach (rows c n) initial dist via)
     (states : ℕ) where
@@ -156,7 +242,7 @@ module _ (goal : Goal) {c : List ℕ} {n : ℕ} (sound : Fit c n) {initial : ℕ
     abbrev way : List ℕ
     way = wayFor ts dist via k
 
-    walk-stands : {out : List ℕ} {more : ℕ} → ShownLeast goal ts k b one out more → PairStands goal m trace₀ b (b + more) out
+    pub walk-stands : {out : List ℕ} {more : ℕ} → ShownLeast goal ts k b one out more → PairStands goal m trace₀ b (b + more) out
     walk-stands {out} {more} w =
         let marked = low .0 .1 .arrives .leaves in
         let number : b ≡ length way = way-number sound reach places first marked wrote in
@@ -188,18 +274,6 @@ module _ (goal : Goal) {c : List ℕ} {n : ℕ} (sound : Fit c n) {initial : ℕ
               (sym (append-assoc way (k ∷ (w .walk .to .rest ++ (w .m ∷ []))) (drop (length l) trace₀)));
         }
 
-    pub pair-stands : {out : List ℕ} {more : ℕ} → WalkOutcome goal c n k b one out more → PairStands goal m trace₀ b (b + more) out
-    pair-stands o = ⊎-elim (λ x. walk-stands (x .1)) (λ x. absurd (x .0 (record {
-      sound = sound;
-      known = omega (arith, first, length-rows c n);
-      room = omega (
-        arith,
-        one-long sound reach places first (low .0 .1 .arrives .leaves) wrote,
-        way-short sound reach places first (low .0 .1 .arrives .leaves) wrote,
-      );
-      after = low .0 .1 .after;
-    }))) o
-
   -- the part of the trace that is lent for its words
   module _ {trace₀ trace : List ℕ} {k all : ℕ} (places : 270 ≤ length trace₀) (s : PairStands goal m trace₀ k all trace) where
     whole : all ≡ length (s .shown)
@@ -225,20 +299,19 @@ module _ (goal : Goal) {c : List ℕ} {n : ℕ} (sound : Fit c n) {initial : ℕ
       ranged = rw stands-steps (trace-ranged ts (sound .ranged) initial (s .shows .end) (s .shown) (s .shows .path));
     }
 
-  pub witness-none : {trace₀ trace : List ℕ} → WitnessOutcome goal c n dist via trace₀ NoWitness trace
+  pub witness-none : {trace₀ trace : List ℕ} → 270 ≤ length trace₀ → WitnessOutcome goal c n dist via trace₀ NoWitness trace
       → (trace ≡ trace₀) × ((i : ℕ) → WalkFrom (Meets goal) m i → ⊥)
-  witness-none (none-shown l) = (refl, nothing-met l)
+  witness-none places (none-shown l) = (refl, nothing-met l)
+  witness-none places (none-fits k low none) = absurd (none (omega (arith, places, reach .most (rowOf c k .from))))
 
   pub witness-shown : {trace₀ trace : List ℕ} {b all : ℕ} → 270 ≤ length trace₀ → WitnessOutcome goal c n dist via trace₀ (Shown b all) trace
       → PairStands goal m trace₀ b all trace
-  witness-shown places (one-shown k low way walk) = pair-stands places k low way walk
+  witness-shown places (one-shown k low s) = walk-stands places k low (s .way) (s .walk)
 
   -- with its words
   pub words-stand : {trace₀ stamps₀ trace stamps : List ℕ} {k all : ℕ} → 270 ≤ length trace₀ → goalRoom goal ≤ length stamps₀
       → ShownOutcome goal c n dist via trace₀ stamps₀ (Shown k all) trace stamps → WordsStand goal m trace₀ stamps₀ k all trace stamps
-  words-stand places room (words-stepless w) =
-      let s = witness-shown places w in absurd (omega (arith, s .whole))
-  words-stand {stamps₀ = stamps₀} {k = k} places room (words-shown w some stamped) =
+  words-stand {stamps₀ = stamps₀} {k = k} places room (words-shown w stamped) =
       let s = witness-shown places w in
       let b = stands-bounds places s in
       record {
@@ -247,16 +320,15 @@ module _ (goal : Goal) {c : List ℕ} {n : ℕ} (sound : Fit c n) {initial : ℕ
             ∙ rw (stands-steps places s) at (goal-plain goal c (s .shown) k (s .last) stamps₀ (stands-ready places s) (s .shows .few) room);
       }
 
-  pub words-nothing : {trace₀ stamps₀ trace stamps : List ℕ} → ShownOutcome goal c n dist via trace₀ stamps₀ NoWitness trace stamps
+  pub words-nothing : {trace₀ stamps₀ trace stamps : List ℕ} → 270 ≤ length trace₀ → ShownOutcome goal c n dist via trace₀ stamps₀ NoWitness trace stamps
       → (trace ≡ trace₀) × (stamps ≡ stamps₀) × ((i : ℕ) → WalkFrom (Meets goal) m i → ⊥)
-  words-nothing (words-none w) = let o = witness-none w in (o .0, refl, o .1)
+  words-nothing places (words-none w) = let o = witness-none places w in (o .0, refl, o .1)
 
 -- the step before the pair can be counted on
 pub counts-on : (goal : Goal) {c : List ℕ} {n : ℕ} {dist via trace₀ stamps₀ : List ℕ} {r : Witness} {b all : ℕ} {trace stamps : List ℕ} → r ≡ Shown b all
     → ShownOutcome goal c n dist via trace₀ stamps₀ r trace stamps → b ≤ length trace₀
 counts-on goal e (words-none w) = absurd (no-witness e)
-counts-on goal e (words-stepless w) = omega (arith, shown-long goal e w)
-counts-on goal e (words-shown w some f) = omega (arith, shown-long goal e w)
+counts-on goal e (words-shown w f) = omega (arith, shown-long goal e w)
 
 -- one number that was found
 at-only : {k j : ℕ} → At k ≡ At j → k ≡ j
@@ -266,14 +338,22 @@ at-only e = ap number e
     number (At k) = k
     number Nothing = 0
 
+same-start : (goal : Goal) {c : List ℕ} {n : ℕ} {dist : List ℕ} {k j : ℕ} → LowestStart goal c n dist (At k) → LowestStart goal c n dist (At j) → k ≡ j
+same-start goal {c} {n} {dist} {k} {j} a b = at-only (lowest-only goal c n dist (At k) (At j) a b)
+
 -- two outcomes for one input agree
 pub witness-agree : (goal : Goal) (c : List ℕ) (n : ℕ) (dist via trace₀ : List ℕ) {r q : Witness} {a b : List ℕ}
     → WitnessOutcome goal c n dist via trace₀ r a → WitnessOutcome goal c n dist via trace₀ q b → WitnessesAgree goal (rows c n) trace₀ r a q b
+witness-agree goal c n dist via trace₀ (none-shown l) (one-shown k low s) = absurd (l k (low .0))
+witness-agree goal c n dist via trace₀ (one-shown k low s) (none-shown l) = absurd (l k (low .0))
+witness-agree goal c n dist via trace₀ (none-fits k low none) (one-shown j low' s) = absurd (none (rw (same-start goal low low') (s .room)))
+witness-agree goal c n dist via trace₀ (one-shown j low' s) (none-fits k low none) = absurd (none (rw (same-start goal low low') (s .room)))
+witness-agree goal c n dist via trace₀ (one-shown {n = b} k low s) (one-shown {n = b'} k' low' s') =
+    let e : k' ≡ k = same-start goal low' low in
+    let w = way-only (rw e at (s' .way)) (s .way) in
+    let z = rw (e, w .0, w .1) at (s' .walk) in
+    rw (w .0) (agree-shown (walks-agree (s .walk) z))
 witness-agree goal c n dist via trace₀ (none-shown l) (none-shown l') = agree-none
-witness-agree goal c n dist via trace₀ (none-shown l) (one-shown k low way walk) = absurd (l k (low .0))
-witness-agree goal c n dist via trace₀ (one-shown k low way walk) (none-shown l) = absurd (l k (low .0))
-witness-agree goal c n dist via trace₀ (one-shown {n = s} {more = x} {one = one} k low way walk) (one-shown {n = s'} {more = y} {one = one'} k' low' way' walk') =
-    let e : k' ≡ k = at-only (lowest-only goal c n dist (At k') (At k) low' low) in
-    let w = way-only (rw e at way') way in
-    let z = rw (e, w .0, w .1) at walk' in
-    rw (w .0) (agree-shown (write-walk-agree goal walk z))
+witness-agree goal c n dist via trace₀ (none-shown l) (none-fits k low none) = agree-none
+witness-agree goal c n dist via trace₀ (none-fits k low none) (none-shown l) = agree-none
+witness-agree goal c n dist via trace₀ (none-fits k low none) (none-fits k' low' none') = agree-none

@@ -9,23 +9,44 @@ use Rattle.model.specs.Trace.{Trace, steps}
 use Rattle.model.specs.Criterion.{PairMeets, WalkFrom}
 use Rattle.model.specs.Shown.{earlyWord}
 use Rattle.model.specs.Stamps.{stampsOf, shownStamps}
-use Rattle.table.specs.Rows.{rowOf}
+use Rattle.table.specs.Rows.{rows, rowOf}
 use Rattle.table.specs.Tests.{Test, unless, afterTable}
 use Rattle.criterion.specs.declared.Goal.{Goal}
 use Rattle.criterion.specs.declared.Goal.the-variants.{Turns, Overtakes}
 use Rattle.criterion.specs.Goals.{Meets}
 use Rattle.words.specs.Left.{wordLeft, wordsLeft}
-use Rattle.reach.specs.Reach.{WayStands, wayTo}
+use Rattle.reach.specs.Reach.{WayStands, mark, wayTo}
 use Rattle.walks.specs.declared.Found.the-variants.{At, Nothing}
-use Rattle.walks.specs.Walks.{LowestStart, WalkOutcome, WalksAgree}
+use Rattle.walks.specs.Walks.{Followed, ShownLeast, LowestStart, WalksAgree}
 use Rattle.witness.specs.declared.Witness.{Witness}
 use Rattle.witness.specs.declared.Witness.the-variants.{Shown, Nothing as NoWitness}
 
--- no pair, nothing written; or the way to the state that the lowest start leaves, and behind it what `write_walk` leaves
+-- k is one of the transitions, and leaves a marked state
+abbrev pub Marked : List ℕ → List ℕ → ℕ → ℕ → Type 0
+Marked cells dist count k = (k < count) × (1 ≤ mark dist (rowOf cells k .from))
+
+-- room for the way to the state that transition k leaves, and behind it for the longest walk from k
+abbrev pub Room : List ℕ → List ℕ → ℕ → List ℕ → Type 0
+Room cells dist k trace₀ = mark dist (rowOf cells k .from) - 1 + 239 ≤ length trace₀
+
+-- the way to the state that transition k leaves, and behind it k, a walk and the least end: n steps, then `more`
+pub record FromStands (goal : Goal) (cells : List ℕ) (count : ℕ) (dist via : List ℕ) (k : ℕ) (trace₀ : List ℕ) (n more : ℕ) (trace : List ℕ) : Type 0 where
+  pub one : List ℕ
+  pub room : Room cells dist k trace₀
+  pub way : WayStands cells dist via (rowOf cells k .from) trace₀ one n
+  pub walk : ShownLeast goal (rows cells count) k n one trace more
+
+-- that, or nothing where k starts no pair or has no room
+pub data FromOutcome (goal : Goal) (cells : List ℕ) (count : ℕ) (dist via : List ℕ) (k : ℕ) (trace₀ : List ℕ) : Witness → List ℕ → Type 0 where
+  from-none : (Followed goal (rows cells count) k → Room cells dist k trace₀ → ⊥) → FromOutcome goal cells count dist via k trace₀ NoWitness trace₀
+  from-shown : {n more : ℕ} {trace : List ℕ} → FromStands goal cells count dist via k trace₀ n more trace
+      → FromOutcome goal cells count dist via k trace₀ (Shown n (n + more)) trace
+
+-- the lowest start, shown; nothing where there is none or it has no room
 pub data WitnessOutcome (goal : Goal) (cells : List ℕ) (count : ℕ) (dist via trace₀ : List ℕ) : Witness → List ℕ → Type 0 where
   none-shown : LowestStart goal cells count dist Nothing → WitnessOutcome goal cells count dist via trace₀ NoWitness trace₀
-  one-shown : {n more : ℕ} {one trace : List ℕ} (k : ℕ) → LowestStart goal cells count dist (At k)
-      → WayStands cells dist via (rowOf cells k .from) trace₀ one n → WalkOutcome goal cells count k n one trace more
+  none-fits : (k : ℕ) → LowestStart goal cells count dist (At k) → (Room cells dist k trace₀ → ⊥) → WitnessOutcome goal cells count dist via trace₀ NoWitness trace₀
+  one-shown : {n more : ℕ} {trace : List ℕ} (k : ℕ) → LowestStart goal cells count dist (At k) → FromStands goal cells count dist via k trace₀ n more trace
       → WitnessOutcome goal cells count dist via trace₀ (Shown n (n + more)) trace
 
 -- 3, 4, 5, then 8: room for 270 steps and for `least` stamps
@@ -46,13 +67,11 @@ abbrev pub goalRoom : Goal → ℕ
 goalRoom Turns = 540
 goalRoom Overtakes = 270
 
--- a shown trace with its words; where it has no step no word is written
+-- a shown trace with its words
 pub data ShownOutcome (goal : Goal) (cells : List ℕ) (count : ℕ) (dist via trace₀ stamps₀ : List ℕ) : Witness → List ℕ → List ℕ → Type 0 where
   words-none : {trace : List ℕ} → WitnessOutcome goal cells count dist via trace₀ NoWitness trace
       → ShownOutcome goal cells count dist via trace₀ stamps₀ NoWitness trace stamps₀
-  words-stepless : {n : ℕ} {trace : List ℕ} → WitnessOutcome goal cells count dist via trace₀ (Shown n 0) trace
-      → ShownOutcome goal cells count dist via trace₀ stamps₀ (Shown n 0) trace stamps₀
-  words-shown : {n all : ℕ} {trace stamps : List ℕ} → WitnessOutcome goal cells count dist via trace₀ (Shown n all) trace → 1 ≤ all
+  words-shown : {n all : ℕ} {trace stamps : List ℕ} → WitnessOutcome goal cells count dist via trace₀ (Shown n all) trace
       → stamps ≡ goalLeft goal cells (take all trace) n (all - 1) stamps₀ → ShownOutcome goal cells count dist via trace₀ stamps₀ (Shown n all) trace stamps
 
 -- two outcomes for one input: nothing both; or one way, and behind it walks that agree. Which walk is free (01: "Which such trace is free")

@@ -10,8 +10,9 @@ ghost use mathlib.Core.Path.{_≡_};
 ghost use Rattle.table.specs.Refusal.{checkedFields};
 ghost use Rattle.table.specs.Rows.{tableIn, machineOf};
 ghost use Rattle.table.specs.Tests.{Tested};
+ghost use Rattle.table.specs.Fit.{Sound};
 ghost use Rattle.walks.specs.Walks.{LowestStart};
-ghost use Rattle.witness.specs.Witness.{searchTests, WitnessOutcome, goalLeft, ShownOutcome};
+ghost use Rattle.witness.specs.Witness.{searchTests, Marked, FromOutcome, WitnessOutcome, goalLeft, ShownOutcome};
 
 // A shown trace: how many steps stand before the pair's first one, and how many there are in all.
 pub enum Witness {
@@ -44,6 +45,29 @@ pub fn admitted(
     Checked::Sound
 }
 
+// The pair whose first step is k, shown from the front of trace on. The walk is written first, since it tells whether there is a pair, then the way before it.
+fn write_from(
+    goal: Goal,
+    cells: &Cells,
+    count: usize,
+    dist: &Marks,
+    via: &Marks,
+    k: usize,
+    trace: &mut [u16],
+) -> Witness
+    requires { ⌜ Sound (now cells) count × Marked (now cells) (now dist) count k ⌝ }
+    ensures { λ r. ⌜ FromOutcome goal (now (cells .entry)) count (now (dist .entry)) (now (via .entry)) k (now (trace .entry)) r (now (trace .exit)) ⌝ }
+{
+    let from = row_of(cells, k).from;
+    let n = reach::mark_of(dist, from) as usize - 1;
+    let more = walks::write_walk(goal, cells, count, k, trace, n);
+    if more == 0 {
+        return Witness::Nothing;
+    }
+    reach::write_way(cells, dist, via, from, trace);
+    Witness::Shown(n, n + more)
+}
+
 // The lowest transition that leaves a marked state and starts a pair.
 fn lowest(goal: Goal, cells: &Cells, count: usize, dist: &Marks) -> Found
     ensures { λ r. ⌜ LowestStart goal (now (cells .entry)) count (now (dist .entry)) r ⌝ }
@@ -54,7 +78,8 @@ fn lowest(goal: Goal, cells: &Cells, count: usize, dist: &Marks) -> Found
     }
 }
 
-// The same, shown from the front of trace on.
+// The same, shown from the front of trace on. Nothing below what is overtaken first turns: where that does, no table of all starts is needed.
+// One call of write_from serves both tries, so that the sums of its walk and the table share their room.
 pub fn write_lowest(
     goal: Goal,
     cells: &Cells,
@@ -65,14 +90,22 @@ pub fn write_lowest(
 ) -> Witness
     ensures { λ r. ⌜ WitnessOutcome goal (now (cells .entry)) count (now (dist .entry)) (now (via .entry)) (now (trace .entry)) r (now (trace .exit)) ⌝ }
 {
-    let found = lowest(goal, cells, count, dist);
-    let Found::At(k) = found else {
-        return Witness::Nothing;
-    };
-    let first = row_of(cells, k);
-    let n = reach::write_way(cells, dist, via, first.from, trace);
-    let more = walks::write_walk(goal, cells, count, k, trace, n);
-    Witness::Shown(n, n + more)
+    let mut found = soonest::lowest_overtaken(cells, count, dist);
+    let mut last = false;
+    loop {
+        let Found::At(k) = found else {
+            return Witness::Nothing;
+        };
+        let shown = write_from(goal, cells, count, dist, via, k, trace);
+        if let Witness::Shown(n, all) = shown {
+            return Witness::Shown(n, all);
+        }
+        if last {
+            return Witness::Nothing;
+        }
+        found = lowest(goal, cells, count, dist);
+        last = true;
+    }
 }
 
 // The words of what is asked, for the steps k and m: the late and the early one of a pair that turns, the early one of a pair that overtakes.
@@ -102,10 +135,6 @@ pub fn show_lowest(
     let Witness::Shown(n, all) = found else {
         return Witness::Nothing;
     };
-    // Never so with the marks of reach.
-    if all == 0 {
-        return Witness::Shown(n, all);
-    }
     write_goal(goal, cells, &trace[..all], n, all - 1, stamps);
     Witness::Shown(n, all)
 }

@@ -2,7 +2,8 @@
 use borrow.Author.Needs.{needs}
 use native.Mathlib.Omega.{arith}
 use Rattle.criterion.specs.declared.Goal.the-variants.{Overtakes}
-use Rattle.soonest.proofs.SoonestLaws.{not-sooner, starts-here, not-marked}
+use Rattle.walks.proofs.StartLaws.{not-marked}
+use Rattle.soonest.proofs.SoonestLaws.{not-sooner, starts-here}
 use Rattle.soonest.proofs.overtaken.Statement.{statement}
 use Rattle.soonest.proofs.overtaken.Tie as tie
 

@@ -2,7 +2,7 @@
 use borrow.Author.Needs.{needs}
 use borrow.Author.Tests.{not-true}
 use Rattle.model.proofs.AnswerLaws.{untold}
-use Rattle.starts.proofs.OvertakenLaws.{none-unlike}
+use Rattle.starts.proofs.LetterLaws.{none-unlike}
 use Rattle.starts.proofs.by_table.Statement.{statement}
 use Rattle.starts.proofs.by_table.Tie as tie
 

@@ -2,7 +2,7 @@
 use borrow.Author.Needs.{needs}
 use native.Mathlib.Omega.{arith}
 use lib.ListN.{length-take}
-use Rattle.witness.specs.Witness.{words-none, words-stepless, words-shown}
+use Rattle.witness.specs.Witness.{words-none, words-shown}
 use Rattle.witness.proofs.WitnessLaws.{shown-long}
 use Rattle.witness.proofs.show_lowest.Statement.{statement}
 use Rattle.witness.proofs.show_lowest.Tie as tie
@@ -10,25 +10,25 @@ use Rattle.witness.proofs.show_lowest.Tie as tie
 returns : tie.Need-returns
 returns c = words-none (rw (c .enum-told .given .1) at (c .before .before .before .before .write-lowest .ensures))
 
-returns-2 : tie.Need-returns-2
-returns-2 c =
-    let f = c .before .before in
-    rw (c .if1 .taken) (words-stepless (rw (c .if1 .taken) at (rw (f .found .given .1) at (f .before .before .before .before .write-lowest .ensures))))
-
 slice-reshare-prefix-write-goal : tie.Need-slice-reshare-prefix-write-goal
 slice-reshare-prefix-write-goal c =
-    let f = c .before .before in
+    let f = c .before in
     omega (arith, shown-long _ (f .found .given .1) (f .before .before .before .before .write-lowest .ensures))
 
 slice-aggregate-write-goal : tie.Need-slice-aggregate-write-goal
 slice-aggregate-write-goal c =
-    let f = c .before .before .before in
+    let f = c .before .before in
     simp length-take (omega (arith, shown-long _ (f .found .given .1) (f .before .before .before .before .write-lowest .ensures)))
 
-returns-3 : tie.Need-returns-3
-returns-3 c =
-    let f = c .before .before .before .before .before .before .before in
-    words-shown (rw (f .found .given .1) at (f .before .before .before .before .write-lowest .ensures)) (omega arith) (c .before .before .write-goal .ensures)
+sub-write-goal : tie.Need-sub-write-goal
+sub-write-goal c =
+    let f = c .before .before in
+    omega (arith, shown-long _ (f .found .given .1) (f .before .before .before .before .write-lowest .ensures))
+
+returns-2 : tie.Need-returns-2
+returns-2 c =
+    let f = c .before .before .before .before .before .before in
+    words-shown (rw (f .found .given .1) at (f .before .before .before .before .write-lowest .ensures)) (c .before .before .write-goal .ensures)
 
 pub show-lowest-spec : {M : Type 1} → statement M
 show-lowest-spec =
@@ -39,12 +39,10 @@ show-lowest-spec =
     (λ c. search needs)
     (λ c. search needs)
     returns
-    (λ c. search needs)
-    returns-2
     slice-reshare-prefix-write-goal
     slice-aggregate-write-goal
-    (λ c. search needs)
+    sub-write-goal
     (λ c κs. search needs)
     (λ c. search needs)
     (λ c. search needs)
-    returns-3)
+    returns-2)

@@ -1,57 +1,78 @@
--- The lowest start, the way to it and the walk behind the way. Assumes nothing.
+-- Two tries: nothing is written until one shows a pair. What is not named follows from the arithmetic around it.
 use borrow.Author.Needs.{needs}
+use mathlib.Core.Path.{_≡_, refl, _∙_}
+use mathlib.Core.Bool.{false, cond}
 use native.Mathlib.Omega.{arith}
-use Rattle.witness.specs.Witness.{none-shown, one-shown}
-use Rattle.witness.proofs.WitnessLaws.{added}
+use Rattle.witness.specs.Witness.{none-shown}
+use Rattle.witness.proofs.WitnessLaws.{Tried, tried-none, tried-marked, tried-shown, from-lowest, from-nothing}
 use Rattle.witness.proofs.write_lowest.Statement.{statement}
 use Rattle.witness.proofs.write_lowest.Tie as tie
 
-lowest-requires : tie.Need-lowest-requires
-lowest-requires c κs = search needs
+abbrev Inv-loop : tie.InvT-loop
+Inv-loop goal cells count dist via trace₀ found₀ last₀ trace found last = (trace ≡ trace₀) × Tried goal cells count dist last found
 
-enum-known-found : tie.Need-enum-known-found
-enum-known-found c = search needs
+abbrev μ-loop : tie.MeasureT-loop
+μ-loop goal cells count dist via trace₀ found₀ last₀ trace found last = cond last 0 1
 
-enum-told : tie.Need-enum-told
-enum-told c = search needs
+loop-holds : tie.Need-loop-holds Inv-loop μ-loop
+loop-holds c = (refl, c .lowest-overtaken .ensures)
 
-returns : tie.Need-returns
-returns c = none-shown (rw (c .enum-told .given .1) at (c .before .before .lowest .ensures))
+returns : tie.Need-returns Inv-loop μ-loop
+returns c =
+    let l = c .before .before .loop in rw (l .inv .0) (none-shown (tried-none _ (l .last) (rw (c .enum-told .given .1) at (l .inv .1))))
 
-row-of-requires : tie.Need-row-of-requires
-row-of-requires c κs = search needs
+write-from-requires : tie.Need-write-from-requires Inv-loop μ-loop
+write-from-requires c κs =
+    let f = c .before .before in
+    let l = f .before .before .loop in
+    tried-marked _ _ (l .last) (rw (f .found .given .1) at (l .inv .1))
 
-write-way-requires : tie.Need-write-way-requires
-write-way-requires c κs = search needs
-
-write-walk-requires : tie.Need-write-walk-requires
-write-walk-requires c κs = search needs
-
-add-t16 : tie.Need-add-t16
-add-t16 c = omega (arith, added _ (c .before .before .before .before .before .before .write-way .ensures) (c .before .before .write-walk .ensures))
-
-same-length : tie.Need-same-length
-same-length c = search needs
-
-returns-2 : tie.Need-returns-2
+returns-2 : tie.Need-returns-2 Inv-loop μ-loop
 returns-2 c =
-    let f = c .before .before .before .before .before .before .before .before in
-    let low = f .before .before in
-    one-shown _ (rw (low .found .given .1) at (low .before .before .lowest .ensures))
-    (rw (f .row-of .ensures) at (c .before .before .before .before .before .before .write-way .ensures))
-    (c .before .before .write-walk .ensures)
+    let w = c .before .before .before .before .before in
+    let f = w .before .before .before in
+    let l = f .before .before .loop in
+    let e = c .before .shown .given .1 in
+    rw e at (tried-shown _ (l .last) e (rw (f .found .given .1) at (l .inv .1)) (rw (l .inv .0) at (w .write-from .ensures)))
+
+returns-3 : tie.Need-returns-3 Inv-loop μ-loop
+returns-3 c =
+    let w = c .before .before .before .before .before in
+    let f = w .before .before .before in
+    let l = f .before .before .loop in
+    let o = rw (c .before .enum-told2 .given .1) at (rw (l .inv .0) at (w .write-from .ensures)) in
+    from-lowest (rw (c .if1 .taken) at (rw (f .found .given .1) at (l .inv .1))) o
+
+loop-less : tie.Need-loop-less Inv-loop μ-loop
+loop-less c =
+    let e : _ ≡ false = c .before .if1 .left in rw e (omega arith)
+
+loop-again : tie.Need-loop-again Inv-loop μ-loop
+loop-again c =
+    let t = c .before .before in
+    let w = t .before .before .before .before in
+    let l = w .before .before .before .before .before .loop in
+    (from-nothing (t .enum-told2 .given .1) (w .write-from .ensures) ∙ l .inv .0, c .lowest .ensures)
 
 pub write-lowest-spec : {M : Type 1} → statement M
 write-lowest-spec =
     tie.close
     (tie.spec
-    lowest-requires
-    enum-known-found
-    enum-told
+    Inv-loop
+    μ-loop
+    (λ c κs. search needs)
+    loop-holds
+    (λ c. search needs)
+    (λ c. search needs)
+    (λ c. search needs)
     returns
-    row-of-requires
-    write-way-requires
-    write-walk-requires
-    add-t16
-    same-length
-    returns-2)
+    write-from-requires
+    (λ c. search needs)
+    (λ c. search needs)
+    returns-2
+    (λ c. search needs)
+    (λ c. search needs)
+    returns-3
+    (λ c κs. search needs)
+    loop-less
+    loop-again)

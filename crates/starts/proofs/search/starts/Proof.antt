@@ -1,7 +1,7 @@
 use borrow.Author.Needs.{needs}
 use native.Mathlib.Omega.{arith}
 use Rattle.model.proofs.AnswerLaws.{tells-same}
-use Rattle.soonest.proofs.SoonestLaws.{not-marked}
+use Rattle.walks.proofs.StartLaws.{not-marked}
 use Rattle.starts.proofs.TableLaws.{entry-there, start-law}
 use Rattle.starts.proofs.search.starts.Statement.{statement}
 use Rattle.starts.proofs.search.starts.Tie as tie
