@@ -595,6 +595,7 @@ cat >stand-in/rt <<STAND_IN
 #!/bin/sh
 case \$* in 'check judge' | 'check order') ;; *) exit 2 ;; esac
 cat >/dev/null
+echo "\$2" >>"$work/asked"
 mkdir -p target/bin target/stamp
 cp "$root/target/bin/\$2" "target/bin/\$2"
 echo built >"target/stamp/\$2"
@@ -615,6 +616,25 @@ rm fresh/target/bin/judge
 with_rt source.bin
 printf '%s\n' "${source_lines[@]}" | cmp -s - out && [ "$status" -eq 1 ] && grep -q 'building' err
 verdict 'a program that was removed is built again' $?
+# asked NAME: the last call asked the toolchain, and got the answer; not_asked NAME: it did not, and got it.
+asked() { printf '%s\n' "${source_lines[@]}" | cmp -s - out && [ -s asked ]; verdict "$1" $?; }
+not_asked() { printf '%s\n' "${source_lines[@]}" | cmp -s - out && [ ! -e asked ]; verdict "$1" $?; }
+rm -f asked
+with_rt source.bin
+not_asked 'nothing was touched since it was built: the toolchain is not asked'
+touch -d '1 hour ago' fresh/crates/judge/main
+with_rt source.bin
+asked 'a source that was touched, its time set back: it is asked'
+rm -f asked
+with_rt source.bin
+not_asked 'and not again'
+touch fresh/crates/judge/more
+with_rt source.bin
+asked 'a new file: it is asked'
+rm -f asked
+mkdir other && ln -s "$kit/on" other/on && echo 'another toolchain' >other/KIT-ID
+kit=$work/other with_rt source.bin
+asked 'another toolchain: it is asked'
 printf '#!/bin/sh\necho "rt: judge NOT PROVED"\nexit 1\n' >stand-in/rt
 with_rt source.bin
 trouble 'the program was not built' 'a stale program is not run'

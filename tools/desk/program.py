@@ -39,16 +39,21 @@ class Program:
         self.name, self.root, self.who = name, root, who
         self.target = os.path.join(root, "target")
         self.binary = os.path.join(self.target, "bin", name)
+        self.record = os.path.join(self.target, name + ".built")  # by which toolchain; its time is when the build began
 
     # ---- Building ----
 
     def ready(self):
         """Builds what is missing or old; from a checkout that may not be written a program that is not old is run as it is."""
+        if self.is_untouched():
+            return
         try:
             os.makedirs(self.target, exist_ok=True)
             with open(os.path.join(self.target, "judge.lock"), "w", encoding="ascii") as lock:
                 self.wait_for(lock)
-                self.build()
+                lock.write("x")
+                lock.flush()
+                self.build(os.fstat(lock.fileno()).st_mtime_ns)
         except OSError as error:
             if self.is_old():
                 raise Trouble(f"the program must be built, and that can't be done here: {error}") from None
@@ -61,19 +66,34 @@ class Program:
         except BlockingIOError:
             fcntl.flock(lock, fcntl.LOCK_EX)
 
+    def sources(self):
+        """Every file and folder that it is made from."""
+        places = [os.path.join(self.root, "crates.txt")]
+        for crate in needed_crates(self.root, self.name):
+            for folder, _, names in os.walk(os.path.join(self.root, "crates", crate)):
+                places += [folder] + [os.path.join(folder, name) for name in names]
+        return places
+
     def is_old(self):
         """Is it missing, or has a source changed since it was built?"""
         try:
             built = os.stat(self.binary).st_mtime_ns
-            places = [os.path.join(self.root, "crates.txt")]
-            for crate in needed_crates(self.root, self.name):
-                for folder, _, names in os.walk(os.path.join(self.root, "crates", crate)):
-                    places += [folder] + [os.path.join(folder, name) for name in names]
-            return any(os.stat(place).st_mtime_ns > built for place in places)
+            return any(os.stat(place).st_mtime_ns > built for place in self.sources())
         except OSError:
             return True
 
-    def build(self):
+    def is_untouched(self):
+        """Was it built here by this toolchain, and no source touched since that began? A file's time of change can't be set back."""
+        try:
+            began = os.stat(self.record).st_mtime_ns
+            with open(self.record, encoding="utf-8") as file:
+                same = file.read() == toolchain_identity()
+            places = self.sources() + [os.path.realpath(toolchain_command())]
+            return same and os.path.exists(self.binary) and all(os.stat(place).st_ctime_ns < began for place in places)
+        except OSError:
+            return False
+
+    def build(self, began):
         """Calls rt, which knows by content what has changed, and tells how far it is."""
         stamp = os.path.join(self.target, "stamp", self.name)
         if not os.path.exists(self.binary) and os.path.exists(stamp):
@@ -93,7 +113,10 @@ class Program:
                         files.say(f"{self.who}: {done} of {len(crates)}: {proved.group(1)} proved ({proved.group(2)})")
         if process.returncode or not os.path.exists(self.binary):
             raise Trouble("\n".join(said + [f"{self.who}: the program was not built"]))
-        os.utime(self.binary)
+        with open(self.record, "w", encoding="utf-8") as file:
+            file.write(toolchain_identity())
+        for place in self.binary, self.record:
+            os.utime(place, ns=(began, began))  # a source that was touched meanwhile is newer
 
     # ---- Running ----
 
@@ -120,6 +143,12 @@ def toolchain_command():
     if command is None:
         raise Trouble("the Rattle toolchain is needed: no command 'rt' on the PATH")
     return command
+
+
+def toolchain_identity():
+    """Where the toolchain is, and which one."""
+    with open(os.path.join(toolchain_home(), "KIT-ID"), encoding="utf-8") as file:
+        return toolchain_command() + "\n" + file.read()
 
 
 def toolchain_home():
