@@ -4,7 +4,7 @@ use mathlib.Core.Logic.{inl, inr}
 use mathlib.Core.List.{List, [], _∷_, _++_}
 use Prim.Native.Nat.{ℕ, _+_, _*_, _-_, _%_, _^_, _≤_, _<_}
 use native.Mathlib.Omega.{arith}
-use lib.ListN.{length, getD, take, drop, set}
+use lib.ListN.{length, getD, take, drop, set, length-append, length-take, length-drop, length-set}
 use Rattle.model.specs.Answers.{Fields}
 use Rattle.model.specs.Table.{Machine, Valid}
 use Rattle.table.specs.declared.Table.{Table}
@@ -23,34 +23,79 @@ use Rattle.replay.specs.Play as replay
 use Rattle.replay.proofs.ReplayLaws.{first, word-place, word-replay}
 use Rattle.night.specs.declared.Words.the-variants.{Played, Refused}
 use Rattle.night.specs.Night.{wordsFields, part, Room, ownTests, wordsTests, WordPlays, WordsOutcome, WordsRun}
-use Rattle.night.proofs.PartLaws.{next-fits, length-part, set-put, one-word}
+use Rattle.night.proofs.PartLaws.{next-fits, next-end, length-part, set-put, none-words, one-word}
 
--- one word more, with the places that the code lends: from `at` to `at + n`
-module _ (c trace starts stamps o₀ d₀ m₀ : List ℕ) (w at : ℕ) (o d m : List ℕ) (k : WordsRun c trace starts stamps w o₀ d₀ m₀ o d m)
-    (ea : at ≡ w * length trace) (h : w < length starts) (ro : length starts * length trace ≤ length o) (rd : length starts * length trace ≤ length d)
-    (rm : length starts ≤ length m) where
-  abbrev lent : List ℕ → List ℕ
-  lent l = take (at + length trace - at) (drop at l)
+-- the words before w are played, and the next word's places begin at `at`
+pub record Playing (c trace starts stamps o₀ d₀ m₀ o d m : List ℕ) (at w : ℕ) : Type 0 where
+  pub upto : w ≤ length starts
+  pub here : at ≡ w * length trace
+  pub order-long : length o ≡ length o₀
+  pub due-long : length d ≡ length d₀
+  pub marks-long : length m ≡ length m₀
+  pub run : WordsRun c trace starts stamps w o₀ d₀ m₀ o d m
 
-  abbrev back : List ℕ → List ℕ → List ℕ
-  back l new = take at l ++ (new ++ drop (at + length trace - at) (drop at l))
+pub playing-none : (c trace starts stamps o₀ d₀ m₀ : List ℕ) → Playing c trace starts stamps o₀ d₀ m₀ o₀ d₀ m₀ 0 0
+playing-none c trace starts stamps o₀ d₀ m₀ = record {
+  upto = omega arith;
+  here = omega arith;
+  order-long = refl;
+  due-long = refl;
+  marks-long = refl;
+  run = none-words _ _ _ _ _ _ _;
+}
 
-  pub one-run : {o' d' : List ℕ} {f : Fields} (mark : ℕ) → length o' ≡ length (lent o) → length d' ≡ length (lent d)
-      → WordRun c trace (getD starts w 0) (lent stamps) (lent o) (lent d) f o' d' → mark ≡ f .first % 2 ^ 16
-      → WordsRun c trace starts stamps (w + 1) o₀ d₀ m₀ (back o o') (back d d') (set m w mark)
-  one-run {o'} {d'} {f} mark so sd x em =
-      let same : mark ≡ f .first = omega (arith, word-place x) in
-      let n : ℕ = length trace in
-      let z : w * n + n - w * n ≡ n = omega arith in
-      let fits : w * n + n ≤ length starts * n = next-fits w (length starts) n h in
-      let fo : w * n + n ≤ length o = omega arith in
-      let fd : w * n + n ≤ length d = omega arith in
-      let fm : w * 1 + 1 ≤ length m = omega arith in
-      rw (ea, z, set-put m mark w fm)
-      (one-word n n 1
-      (λ w o₀ d₀ o d k. WordPlays (λ f. WordRun c trace (getD starts w 0) (part n w stamps) o₀ d₀ f o d) (λ step. k ≡ step ∷ [])) o₀ d₀ m₀
-      w o d m o' d' (mark ∷ []) k fo fd fm (rw (ea, z) at so ∙ length-part n w o fo) (rw (ea, z) at sd ∙ length-part n w d fd) refl
-      (record { said = f; outcome = rw (ea, z) at x; marked = rw same refl }))
+module _ {c trace starts stamps o₀ d₀ m₀ o d m : List ℕ} {at w : ℕ} (k : Playing c trace starts stamps o₀ d₀ m₀ o d m at w) where
+  pub playing-all : length starts ≤ w → WordsRun c trace starts stamps (length starts) o₀ d₀ m₀ o d m
+  playing-all h = let e : w ≡ length starts = omega arith in rw e at (k .run)
+
+  module _ (pre : (length stamps ≡ length starts * length trace) × Room (length starts) (length trace) o₀ d₀ m₀) (h : w < length starts) where
+    -- the places of the word at hand
+    pub lent-fits : (at + length trace ≤ length stamps) × (at + length trace ≤ length o) × (at + length trace ≤ length d)
+    lent-fits = let room = pre .1 in omega (arith, next-fits w (length starts) (length trace) h)
+
+    -- they are lent from `at` to `at + n`
+    abbrev lent : List ℕ → List ℕ
+    lent l = take (at + length trace - at) (drop at l)
+
+    abbrev back : List ℕ → List ℕ → List ℕ
+    back l new = take at l ++ (new ++ drop (at + length trace - at) (drop at l))
+
+    back-long : (l new : List ℕ) → at + length trace ≤ length l → length new ≡ length (lent l) → length (back l new) ≡ length l
+    back-long l new f e =
+        let e' : length new ≡ length trace = e ∙ simp (length-take, length-drop) (omega arith) in
+        simp (length-append, length-take, length-drop) (omega arith)
+
+    run-more : {o' d' : List ℕ} {f : Fields} (mark : ℕ) → length o' ≡ length (lent o) → length d' ≡ length (lent d)
+        → WordRun c trace (getD starts w 0) (lent stamps) (lent o) (lent d) f o' d' → mark ≡ f .first % 2 ^ 16
+        → WordsRun c trace starts stamps (w + 1) o₀ d₀ m₀ (back o o') (back d d') (set m w mark)
+    run-more {o'} {d'} {f} mark so sd x em =
+        let same : mark ≡ f .first = omega (arith, word-place x) in
+        let n : ℕ = length trace in
+        let ea : at ≡ w * n = k .here in
+        let z : w * n + n - w * n ≡ n = omega arith in
+        let fits = lent-fits in
+        let fo : w * n + n ≤ length o = omega arith in
+        let fd : w * n + n ≤ length d = omega arith in
+        let room = pre .1 in
+        let fm : w * 1 + 1 ≤ length m = omega arith in
+        rw (ea, z, set-put m mark w fm)
+        (one-word n n 1
+        (λ w o₀ d₀ o d k. WordPlays (λ f. WordRun c trace (getD starts w 0) (part n w stamps) o₀ d₀ f o d) (λ step. k ≡ step ∷ [])) o₀ d₀ m₀
+        w o d m o' d' (mark ∷ []) (k .run) fo fd fm (rw (ea, z) at so ∙ length-part n w o fo) (rw (ea, z) at sd ∙ length-part n w d fd) refl
+        (record { said = f; outcome = rw (ea, z) at x; marked = rw same refl }))
+
+    -- one word more
+    pub playing-more : {o' d' : List ℕ} {f : Fields} (mark : ℕ) → length o' ≡ length (lent o) → length d' ≡ length (lent d)
+        → WordRun c trace (getD starts w 0) (lent stamps) (lent o) (lent d) f o' d' → mark ≡ f .first % 2 ^ 16
+        → Playing c trace starts stamps o₀ d₀ m₀ (back o o') (back d d') (set m w mark) (at + length trace) (w + 1)
+    playing-more {o'} {d'} mark so sd x em = record {
+      upto = omega arith;
+      here = omega (arith, next-end w (length trace));
+      order-long = back-long o o' (lent-fits .1) so ∙ k .order-long;
+      due-long = back-long d d' (lent-fits .2) sd ∙ k .due-long;
+      marks-long = simp length-set (k .marks-long);
+      run = run-more mark so sd x em;
+    }
 
 -- each way out of the tests
 module _ (t : Table) (trace starts stamps o₀ d₀ m₀ : List ℕ) where

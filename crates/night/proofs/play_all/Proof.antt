@@ -1,33 +1,26 @@
 use borrow.Author.Needs.{needs}
 use native.Mathlib.Omega.{arith}
-use mathlib.Core.Path.{_≡_, refl}
-use Prim.Native.Nat.{_+_, _*_, _≤_, _-_}
+use Prim.Native.Nat.{_+_, _≤_, _-_}
 use lib.ListN.{length}
-use Rattle.night.specs.Night.{WordsRun}
-use Rattle.night.proofs.PartLaws.{next-fits, next-end, none-words}
-use Rattle.night.proofs.NightLaws.{one-run}
+use Rattle.night.proofs.NightLaws.{Playing, playing-none, lent-fits, playing-more, playing-all}
 use Rattle.night.proofs.play_all.Statement.{statement}
 use Rattle.night.proofs.play_all.Tie as tie
 
 abbrev Inv-loop : tie.InvT-loop
 Inv-loop cells trace starts stamps order₀ due₀ marks₀ n at₀ w₀ order due marks at w =
-    (w ≤ length starts) × (at ≡ w * length trace) × (length order ≡ length order₀) × (length due ≡ length due₀) × (length marks ≡ length marks₀)
-    × WordsRun cells trace starts stamps w order₀ due₀ marks₀ order due marks
+    Playing cells trace starts stamps order₀ due₀ marks₀ order due marks at w
 
 abbrev μ-loop : tie.MeasureT-loop
 μ-loop cells trace starts stamps order₀ due₀ marks₀ n at₀ w₀ order due marks at w = length starts - w
 
 loop-holds : tie.Need-loop-holds Inv-loop μ-loop
-loop-holds c = (omega arith, omega arith, refl, refl, refl, none-words _ _ _ _ _ _ _)
+loop-holds c = playing-none _ _ _ _ _ _ _
 
 -- the places of the word at hand
 lent : (p : tie.In-loop Inv-loop μ-loop) → let a = p .before .before .before .before .before .before .before .before .args in let l = p .before .loop in
     (l .at + length (a .trace .now) ≤ length (a .stamps .now)) × (l .at + length (a .trace .now) ≤ length (l .order))
     × (l .at + length (a .trace .now) ≤ length (l .due))
-lent p =
-    let a = p .before .before .before .before .before .before .before .before .args in
-    let room = p .before .before .before .before .before .before .before .before .pre .1 in
-    omega (arith, next-fits (p .before .loop .w) (length (a .starts .now)) (length (a .trace .now)) (omega arith), room .order-room, room .due-room)
+lent p = lent-fits (p .before .loop .inv) (p .before .before .before .before .before .before .before .before .pre) (p .loop-test .taken)
 
 add-end : tie.Need-add-end Inv-loop μ-loop
 add-end c = let h = lent c in search needs
@@ -94,21 +87,11 @@ loop-less c = search needs
 
 loop-again : tie.Need-loop-again Inv-loop μ-loop
 loop-again c =
-    let s = c .before .before .before .before .before .before .before .before .before .before .before .before .before .before .before .before .before .before in
-    let a = s .args in
-    let room = s .pre .1 in
-    let l = c .before .before .before .before .before .before .before .before .before .before .before .loop in
-    let one = c .before .before .before .before .before .play-word in (
-      omega arith,
-      omega (arith, next-end (l .w) (length (a .trace .now))),
-      search needs,
-      search needs,
-      search needs,
-      one-run (a .cells .now) (a .trace .now) (a .starts .now) (a .stamps .now) (a .order .now) (a .due .now) (a .marks .now)
-          (l .w) (l .at) (l .order) (l .due) (l .marks) (l .inv .5) (l .inv .1) (omega arith)
-          (omega (arith, room .order-room)) (omega (arith, room .due-room)) (omega (arith, room .marks-room))
-          (c .mark .result) (one .kept .1 .1 .1 .1 .0) (one .kept .1 .1 .1 .1 .1 .0) (one .ensures) (c .mark .ensures),
-    )
+    let p = c .before .before .before .before .before .before .before .before .before .before in
+    let pre = p .before .before .before .before .before .before .before .before .pre in
+    let one = c .before .before .before .before .before .play-word in
+    playing-more (p .before .loop .inv) pre (p .loop-test .taken) (c .mark .result) (one .kept .1 .1 .1 .1 .0) (one .kept .1 .1 .1 .1 .1 .0)
+    (one .ensures) (c .mark .ensures)
 
 same-length : tie.Need-same-length Inv-loop μ-loop
 same-length c = search needs
@@ -120,11 +103,7 @@ same-length-3 : tie.Need-same-length-3 Inv-loop μ-loop
 same-length-3 c = search needs
 
 returns : tie.Need-returns Inv-loop μ-loop
-returns c =
-    let a = c .before .before .before .before .before .before .before .before .args in
-    let l = c .before .loop in
-    let e : l .w ≡ length (a .starts .now) = omega arith in
-    rw e at (l .inv .5)
+returns c = playing-all (c .before .loop .inv) (omega arith)
 
 pub play-all-spec : {M : Type 1} → statement M
 play-all-spec =
