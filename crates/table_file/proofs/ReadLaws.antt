@@ -6,6 +6,8 @@ use mathlib.Core.Logic.{dite}
 use native.Mathlib.Decide.{decLt}
 use Prim.Native.Nat.{ℕ, zero, suc, _+_, _*_, _-_, _≤_, _<_}
 use native.Mathlib.Omega.{arith}
+use mir.Syntax.{w64}
+use mir.Val.{Fits}
 use borrow.Author.Tests.{le-leb, lt-leb}
 use lib.Dec.{ltb}
 use lib.ListN.{length, take, drop, length-drop}
@@ -111,6 +113,10 @@ module _ (states at n : ℕ) (met : Bool) (t : Transition) where
 
   admit-full-says : (x : Refusal) → 256 ≤ n → Refused x ≡ admitOf states at n met t → x ≡ Full at
   admit-full-says x h e = let f : Refused x ≡ Refused (Full at) = e ∙ sym (admit-full h) in cc
+
+-- the record's body is a part of the file
+pub next-body : {l seen : List ℕ} {n at : ℕ} {t : Row} → Next l seen n at t → Fits w64 (at + 4) × Fits w64 (at + 18) × (at + 4 ≤ at + 18)
+next-body next = (record { fits = omega arith }, record { fits = omega arith }, omega arith)
 
 -- the code looks for what stands in record n
 pub own-has : (l : List ℕ) (n at : ℕ) (t : Row) {seen : List ℕ} → Next l seen n at t → {b : Bool} → b ≡ has (said (recordAt l n)) (recorded l n)

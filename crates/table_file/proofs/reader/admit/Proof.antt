@@ -5,7 +5,7 @@ use mathlib.Core.Path.{_≡_, sym, _∙_}
 use mathlib.Core.Bool.{true}
 use Rattle.table.specs.Rows.{said}
 use Rattle.table.specs.Check.{inRange}
-use Rattle.table_file.proofs.ReadLaws.{own-has, admitted-full, admitted-range, admitted-twin, admitted-new, admitted-unmarked}
+use Rattle.table_file.proofs.ReadLaws.{next-body, own-has, admitted-full, admitted-range, admitted-twin, admitted-new, admitted-unmarked}
 use Rattle.table_file.proofs.reader.admit.Statement.{statement}
 use Rattle.table_file.proofs.reader.admit.Tie as tie
 
@@ -59,11 +59,11 @@ admit-spec =
     returns
     (λ c κs. search needs)
     returns-2
-    (λ c. search needs)
-    (λ c. search needs)
-    (λ c. search needs)
-    (λ c. search needs)
-    (λ c. search needs)
+    (λ c. next-body (c .before .before .before .before .before .before .pre) .0)
+    (λ c. next-body (c .before .before .before .before .before .before .pre) .1)
+    (λ c. next-body (c .before .before .before .before .before .before .pre) .2)
+    (λ c. next-body (c .before .before .before .before .before .before .pre) .2)
+    (λ c. c .before .before .before .before .before .before .pre .inside)
     (λ c κs. search needs)
     (λ c κs. search needs)
     (λ c κs. search needs)

@@ -1,41 +1,15 @@
-use borrow.Author.Needs.{needs}
-use Prim.Native.Nat.{_-_}
+use Rattle.table_file.proofs.FrameLaws.{row-is}
 use Rattle.table_file.proofs.reader.fields.Statement.{statement}
 use Rattle.table_file.proofs.reader.fields.Tie as tie
 
-two-requires : tie.Need-two-requires
-two-requires c κs = search needs
-
-two-requires-2 : tie.Need-two-requires-2
-two-requires-2 c κs = search needs
-
-two-requires-3 : tie.Need-two-requires-3
-two-requires-3 c κs = search needs
-
-two-requires-4 : tie.Need-two-requires-4
-two-requires-4 c κs = search needs
-
-two-requires-5 : tie.Need-two-requires-5
-two-requires-5 c κs = search needs
-
-two-requires-6 : tie.Need-two-requires-6
-two-requires-6 c κs = search needs
-
-two-requires-7 : tie.Need-two-requires-7
-two-requires-7 c κs = search needs
-
 returns : tie.Need-returns
-returns c = cc
+returns c =
+    let p = c .before .before .before in
+    let s = p .before .before .before in
+    row-is (s .before .before .args .body .now) (s .two .ensures) (p .before .before .two2 .ensures) (p .before .two3 .ensures) (p .two4 .ensures)
+    (c .before .before .two5 .ensures) (c .before .two6 .ensures) (c .two7 .ensures)
 
 pub fields-spec : {M : Type 1} → statement M
 fields-spec =
     tie.close
-    (tie.spec
-    two-requires
-    two-requires-2
-    two-requires-3
-    two-requires-4
-    two-requires-5
-    two-requires-6
-    two-requires-7
-    returns)
+    (tie.spec (λ c κs. tt) (λ c κs. tt) (λ c κs. tt) (λ c κs. tt) (λ c κs. tt) (λ c κs. tt) (λ c κs. tt) returns)
