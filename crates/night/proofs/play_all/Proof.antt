@@ -1,4 +1,5 @@
 use borrow.Author.Needs.{needs}
+use native.Mathlib.Nat.{le-add-right}
 use native.Mathlib.Omega.{arith}
 use Prim.Native.Nat.{_+_, _≤_, _-_}
 use lib.ListN.{length}
@@ -22,69 +23,6 @@ lent : (p : tie.In-loop Inv-loop μ-loop) → let a = p .before .before .before 
     × (l .at + length (a .trace .now) ≤ length (l .due))
 lent p = lent-fits (p .before .loop .inv) (p .before .before .before .before .before .before .before .before .pre) (p .loop-test .taken)
 
-add-end : tie.Need-add-end Inv-loop μ-loop
-add-end c = let h = lent c in search needs
-
-mul-start : tie.Need-mul-start Inv-loop μ-loop
-mul-start c = search needs
-
-shared-slice-read-start : tie.Need-shared-slice-read-start Inv-loop μ-loop
-shared-slice-read-start c = search needs
-
-mul-play-word : tie.Need-mul-play-word Inv-loop μ-loop
-mul-play-word c = let h = lent (c .before) in search needs
-
-sub-play-word : tie.Need-sub-play-word Inv-loop μ-loop
-sub-play-word c = search needs
-
-part-play-word-start : tie.Need-part-play-word-start Inv-loop μ-loop
-part-play-word-start c = search needs
-
-part-play-word-end : tie.Need-part-play-word-end Inv-loop μ-loop
-part-play-word-end c = let h = lent (c .before) in search needs
-
-mul-play-word-2 : tie.Need-mul-play-word-2 Inv-loop μ-loop
-mul-play-word-2 c = let h = lent (c .before .before) in search needs
-
-sub-play-word-2 : tie.Need-sub-play-word-2 Inv-loop μ-loop
-sub-play-word-2 c = search needs
-
-part-play-word-start-2 : tie.Need-part-play-word-start-2 Inv-loop μ-loop
-part-play-word-start-2 c = search needs
-
-part-play-word-end-2 : tie.Need-part-play-word-end-2 Inv-loop μ-loop
-part-play-word-end-2 c = let h = lent (c .before .before) in search needs
-
-mul-play-word-3 : tie.Need-mul-play-word-3 Inv-loop μ-loop
-mul-play-word-3 c = let h = lent (c .before .before .before) in search needs
-
-sub-play-word-3 : tie.Need-sub-play-word-3 Inv-loop μ-loop
-sub-play-word-3 c = search needs
-
-part-play-word-start-3 : tie.Need-part-play-word-start-3 Inv-loop μ-loop
-part-play-word-start-3 c = search needs
-
-part-play-word-end-3 : tie.Need-part-play-word-end-3 Inv-loop μ-loop
-part-play-word-end-3 c = let h = lent (c .before .before .before) in search needs
-
-play-word-requires : tie.Need-play-word-requires Inv-loop μ-loop
-play-word-requires c κs = search needs
-
-mark-requires : tie.Need-mark-requires Inv-loop μ-loop
-mark-requires c κs = search needs
-
-mul-marks : tie.Need-mul-marks Inv-loop μ-loop
-mul-marks c = search needs
-
-slice-write-marks : tie.Need-slice-write-marks Inv-loop μ-loop
-slice-write-marks c = search needs
-
-add-w : tie.Need-add-w Inv-loop μ-loop
-add-w c = search needs
-
-loop-less : tie.Need-loop-less Inv-loop μ-loop
-loop-less c = search needs
-
 loop-again : tie.Need-loop-again Inv-loop μ-loop
 loop-again c =
     let p = c .before .before .before .before .before .before .before .before .before .before in
@@ -92,15 +30,6 @@ loop-again c =
     let one = c .before .before .before .before .before .play-word in
     playing-more (p .before .loop .inv) pre (p .loop-test .taken) (c .mark .result) (one .kept .1 .1 .1 .1 .0) (one .kept .1 .1 .1 .1 .1 .0)
     (one .ensures) (c .mark .ensures)
-
-same-length : tie.Need-same-length Inv-loop μ-loop
-same-length c = search needs
-
-same-length-2 : tie.Need-same-length-2 Inv-loop μ-loop
-same-length-2 c = search needs
-
-same-length-3 : tie.Need-same-length-3 Inv-loop μ-loop
-same-length-3 c = search needs
 
 returns : tie.Need-returns Inv-loop μ-loop
 returns c = playing-all (c .before .loop .inv) (omega arith)
@@ -112,29 +41,29 @@ play-all-spec =
     Inv-loop
     μ-loop
     loop-holds
-    add-end
-    mul-start
-    shared-slice-read-start
-    mul-play-word
-    sub-play-word
-    part-play-word-start
-    part-play-word-end
-    mul-play-word-2
-    sub-play-word-2
-    part-play-word-start-2
-    part-play-word-end-2
-    mul-play-word-3
-    sub-play-word-3
-    part-play-word-start-3
-    part-play-word-end-3
-    play-word-requires
-    mark-requires
-    mul-marks
-    slice-write-marks
-    add-w
-    loop-less
+    (λ c. let h = lent c in search needs)
+    (λ c. search needs)
+    (λ c. search needs)
+    (λ c. let h = lent (c .before) in search needs)
+    (λ c. le-add-right _ _)
+    (λ c. le-add-right _ _)
+    (λ c. lent (c .before) .0)
+    (λ c. let h = lent (c .before .before) in search needs)
+    (λ c. le-add-right _ _)
+    (λ c. le-add-right _ _)
+    (λ c. lent (c .before .before) .1)
+    (λ c. let h = lent (c .before .before .before) in search needs)
+    (λ c. le-add-right _ _)
+    (λ c. le-add-right _ _)
+    (λ c. lent (c .before .before .before) .2)
+    (λ c κs. search needs)
+    (λ c κs. search needs)
+    (λ c. search needs)
+    (λ c. search needs)
+    (λ c. search needs)
+    (λ c. search needs)
     loop-again
-    same-length
-    same-length-2
-    same-length-3
+    (λ c. search needs)
+    (λ c. search needs)
+    (λ c. search needs)
     returns)
