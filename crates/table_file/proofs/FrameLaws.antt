@@ -109,12 +109,6 @@ module _ (l : List ℕ) (at : ℕ) where
   pub left-body : (e : ℕ) → e ≡ at + 18 → take (e - (at + 4)) (drop (at + 4) l) ≡ bodyIn 14 (drop at l)
   left-body e q = let n : e - (at + 4) ≡ 14 = omega arith in rw (n, drop-drop 4 at l)
 
--- seven numbers read one by one
-pub row-is : (body : List ℕ) {from input output to u v d : ℕ} → from ≡ le 2 body 0 → input ≡ le 2 body 2 → output ≡ le 2 body 4 → to ≡ le 2 body 6
-    → u ≡ le 2 body 8 → v ≡ le 2 body 10 → d ≡ le 2 body 12
-    → record { from = from; input = input; output = output; to = to; u = u; v = v; d = d } ≡ rowIn body
-row-is body p q r s t u v = rw (p, q, r, s, t, u, v)
-
 -- the key of a body by four numbers
 pub body-key : (body : List ℕ) → mixOf (le 4 body 0) (le 4 body 4) (le 4 body 8) (le 2 body 12) ≡ keyOf (said (rowIn body))
 body-key body = rw (le-halves body 0, le-halves body 4, le-halves body 8)
