@@ -1,9 +1,11 @@
 use borrow.Author.Needs.{needs}
 use native.Mathlib.Nat.{le-add-right}
 use native.Mathlib.Omega.{arith}
-use Prim.Native.Nat.{_+_, _≤_, _-_}
+use Prim.Native.Nat.{_+_, _*_, _≤_, _<_, _-_}
+use mir.Syntax.{w64}
+use mir.Val.{Fits}
 use lib.ListN.{length}
-use Rattle.night.proofs.NightLaws.{Playing, playing-none, lent-fits, playing-more, playing-all}
+use Rattle.night.proofs.NightLaws.{Playing, playing-none, lent-fits, mark-fits, playing-more, playing-all}
 use Rattle.night.proofs.play_all.Statement.{statement}
 use Rattle.night.proofs.play_all.Tie as tie
 
@@ -22,6 +24,10 @@ lent : (p : tie.In-loop Inv-loop μ-loop) → let a = p .before .before .before 
     (l .at + length (a .trace .now) ≤ length (a .stamps .now)) × (l .at + length (a .trace .now) ≤ length (l .order))
     × (l .at + length (a .trace .now) ≤ length (l .due))
 lent p = lent-fits (p .before .loop .inv) (p .before .before .before .before .before .before .before .before .pre) (p .loop-test .taken)
+
+marked : (p : tie.In-loop Inv-loop μ-loop) → let a = p .before .before .before .before .before .before .before .before .args in let l = p .before .loop in
+    Fits w64 (l .w * 2) × (l .w < length (l .marks)) × Fits w64 (l .w + 1) × (length (a .starts .now) - (l .w + 1) < length (a .starts .now) - l .w)
+marked p = let s = p .before .before .before .before .before .before .before .before in mark-fits (p .before .loop .inv) (s .pre) (p .loop-test .taken) (s .good .1 .1 .0 .1)
 
 loop-again : tie.Need-loop-again Inv-loop μ-loop
 loop-again c =
@@ -58,10 +64,10 @@ play-all-spec =
     (λ c. lent (c .before .before .before) .2)
     (λ c κs. search needs)
     (λ c κs. search needs)
-    (λ c. search needs)
-    (λ c. search needs)
-    (λ c. search needs)
-    (λ c. search needs)
+    (λ c. marked (c .before .before .before .before .before .before .before .before .before .before) .0)
+    (λ c. marked (c .before .before .before .before .before .before .before .before .before .before) .1)
+    (λ c. marked (c .before .before .before .before .before .before .before .before .before .before) .2)
+    (λ c. marked (c .before .before .before .before .before .before .before .before .before .before) .3)
     loop-again
     (λ c. search needs)
     (λ c. search needs)
