@@ -1,7 +1,7 @@
 use borrow.Author.Needs.{needs}
 use native.Mathlib.Omega.{arith}
 use mathlib.Core.Path.{_≡_, refl, _∙_}
-use Prim.Native.Nat.{_+_, _*_, _/_, _≤_, _-_}
+use Prim.Native.Nat.{_+_, _*_, _/_, _^_, _≤_, _<_, _-_}
 use lib.ListN.{length}
 use Rattle.night.proofs.PartLaws.{next-fits, next-end, none-words}
 use Rattle.night_bytes.specs.Runs.{Lent, WordsWritten}
@@ -22,15 +22,38 @@ abbrev μ-loop : tie.MeasureT-loop
 loop-holds : tie.Need-loop-holds Inv-loop μ-loop
 loop-holds c = (omega arith, omega arith, omega arith, refl, refl, refl, search needs, none-words _ _ _ _ _ _ _)
 
--- the bytes of the word at hand
-lent : (p : tie.In-loop Inv-loop μ-loop) → let a = p .before .before .before .before .before .before .before .before .args in let l = p .before .loop in
-    (l .two + length (a .trace .now) * 2 ≤ length (l .order)) × (l .four + length (a .trace .now) * 4 ≤ length (l .due))
-    × (l .four + length (a .trace .now) * 4 ≤ length (a .stamps .now))
+-- the word at hand: its bytes, the places after it, and the lists as they are now. What is needed further on is said here, where few facts are at hand
+lent : (p : tie.In-loop Inv-loop μ-loop) → let a = p .before .before .before .before .before .before .before .before .args in let l = p .before .loop in let n = length (a .trace .now) in
+    let words = length (a .starts .now) / 4 in
+    (l .two + n * 2 ≤ length (l .order)) × (l .four + n * 4 ≤ length (l .due)) × (l .four + n * 4 ≤ length (a .stamps .now))
+    × (l .w < words) × (l .w * 2 < 2 ^ 64) × (l .w + 1 < 2 ^ 64) × (words - (l .w + 1) < words - l .w)
+    × (l .two + n * 2 ≡ (l .w + 1) * (n * 2)) × (l .four + n * 4 ≡ (l .w + 1) * (n * 4))
+    × Lent n words (a .stamps .now) (l .order) (l .due) (l .marks)
 lent p =
-    let a = p .before .before .before .before .before .before .before .before .args in
-    let r = p .before .before .before .before .before .before .before .before .pre in
-    let w = p .before .loop .w in
-    omega (arith, next-fits w (length (a .starts .now) / 4) (length (a .trace .now) * 2) (omega arith), next-fits w (length (a .starts .now) / 4) (length (a .trace .now) * 4) (omega arith), r .order-bytes, r .due-bytes, r .stamps-bytes)
+    let s = p .before .before .before .before .before .before .before .before in
+    let n = length (s .args .trace .now) in
+    let words = length (s .args .starts .now) / 4 in
+    let l = p .before .loop in
+    let h : l .w < words = omega arith in
+    let twos = next-fits (l .w) words (n * 2) h in
+    let fours = next-fits (l .w) words (n * 4) h in (
+      omega (arith, twos, s .pre .order-bytes),
+      omega (arith, fours, s .pre .due-bytes),
+      omega (arith, fours, s .pre .stamps-bytes),
+      h,
+      omega arith,
+      omega arith,
+      omega (h, arith),
+      omega (arith, next-end (l .w) (n * 2)),
+      omega (arith, next-end (l .w) (n * 4)),
+      record {
+        most = s .pre .most;
+        stamps-bytes = s .pre .stamps-bytes;
+        order-bytes = rw (l .inv .3) (s .pre .order-bytes);
+        due-bytes = rw (l .inv .4) (s .pre .due-bytes);
+        marks-bytes = rw (l .inv .5) (s .pre .marks-bytes);
+      },
+    )
 
 mul-twos : tie.Need-mul-twos Inv-loop μ-loop
 mul-twos c = search needs
@@ -87,7 +110,7 @@ mark-requires : tie.Need-mark-requires Inv-loop μ-loop
 mark-requires c κs = search needs
 
 mul-put-twos : tie.Need-mul-put-twos Inv-loop μ-loop
-mul-put-twos c = search needs
+mul-put-twos c = record { fits = lent (c .before .before .before .before .before .before .before .before .before .before .before .before .before) .4 }
 
 slice-aggregate-put-twos : tie.Need-slice-aggregate-put-twos Inv-loop μ-loop
 slice-aggregate-put-twos c = search needs
@@ -96,13 +119,10 @@ put-twos-requires : tie.Need-put-twos-requires Inv-loop μ-loop
 put-twos-requires c κs = search needs
 
 add-w : tie.Need-add-w Inv-loop μ-loop
-add-w c =
-    let p = c .before .before .before .before .before .before .before .before .before .before .before .before .before .before .before .before .before in
-    let h : p .before .loop .w + 1 ≤ length (p .before .before .before .before .before .before .before .before .args .starts .now) = omega arith in
-    search needs
+add-w c = record { fits = lent (c .before .before .before .before .before .before .before .before .before .before .before .before .before .before .before .before .before) .5 }
 
 loop-less : tie.Need-loop-less Inv-loop μ-loop
-loop-less c = search needs
+loop-less c = lent (c .before .before .before .before .before .before .before .before .before .before .before .before .before .before .before .before .before) .6
 
 loop-again : tie.Need-loop-again Inv-loop μ-loop
 loop-again c =
@@ -111,25 +131,16 @@ loop-again c =
     let h = lent (p .before .before .before .before .before .before) in
     let l = p .before .before .before .before .before .before .before .loop in
     let s = p .before .before .before .before .before .before .before .before .before .before .before .before .before .before in
-    let a = s .args in
-    let r = s .pre in
-    let more : l .w + 1 ≤ length (a .starts .now) / 4 = omega (arith, p .before .before .before .before .before .before .loop-test .taken) in
-    let room : Lent (length (a .trace .now)) (length (a .starts .now) / 4) (a .stamps .now) (l .order) (l .due) (l .marks) = record {
-      most = r .most;
-      stamps-bytes = r .stamps-bytes;
-      order-bytes = omega (arith, r .order-bytes);
-      due-bytes = omega (arith, r .due-bytes);
-      marks-bytes = omega (arith, r .marks-bytes);
-    } in (
-      omega arith,
-      omega (arith, next-end (l .w) (length (a .trace .now) * 2)),
-      omega (arith, next-end (l .w) (length (a .trace .now) * 4)),
+    let a = s .args in (
+      omega (arith, h .3),
+      h .7,
+      h .8,
       length-back (l .two) (length (a .trace .now) * 2) (l .order) (p .play-one .last .1 .1 .1 .1 .0) (h .0) (p .play-one .kept .1 .1 .1 .1 .0) ∙ l .inv .3,
       length-back (l .four) (length (a .trace .now) * 4) (l .due) (p .play-one .last .1 .1 .1 .1 .1 .0) (h .1) (p .play-one .kept .1 .1 .1 .1 .1 .0) ∙ l .inv .4,
-      search needs,
-      search needs,
+      c .before .before .put-twos .kept .0 ∙ l .inv .5,
+      p .play-one .kept .1 .1 .1 .1 .1 .1 .0 ∙ l .inv .6,
       one-written (a .cells .now) (a .trace .now) (a .starts .now) (a .stamps .now) (a .order .now) (a .due .now) (a .marks .now)
-          (length (a .starts .now) / 4) (l .w) (l .two) (l .four) (l .order) (l .due) (l .marks) (l .inv .7) (l .inv .1) (l .inv .2) (omega arith) room
+          (length (a .starts .now) / 4) (l .w) (l .two) (l .four) (l .order) (l .due) (l .marks) (l .inv .7) (l .inv .1) (l .inv .2) (h .3) (h .9)
           (k .mark .result) (p .before .before .before .before .before .four .ensures) (p .play-one .kept .1 .1 .1 .1 .0) (p .play-one .kept .1 .1 .1 .1 .1 .0) (c .before .before .put-twos .ensures) (p .play-one .ensures) (k .mark .ensures),
     )
 
