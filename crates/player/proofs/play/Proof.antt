@@ -159,7 +159,7 @@ use Rattle.records.proofs.Walk.{
   fst∗,
 }
 use denote.Struct.Laws as LL
-use mir.Syntax.{w16}
+use mir.Syntax.{w16, tyInt, Tys, tcons, tnil}
 use mir.Val.{vptr}
 use denote.Builtin.{u16, RefOf, ArrayOf}
 use denote.Signature.{Slot}
@@ -240,11 +240,12 @@ stayed = (
   ),
 )
 
--- the type of a local, as the code has it
-abbrev tyOf : List Local → ℕ → Ty
-tyOf [] k = tyBool
-tyOf (local τ h ∷ ls) zero = τ
-tyOf (local τ h ∷ ls) (suc k) = tyOf ls k
+-- the types of the fields of a plan and of what is decided
+abbrev inPlan : Tys
+inPlan = tcons (tyInt w64) (tcons Wk′.mir tnil)
+
+abbrev inDecided : Tys
+inDecided = tcons Md′.mir (tcons (tyInt w64) (tcons Wk′.mir tnil))
 
 module _ {M : Type 1} (𝓤 : URA M) (H : Heap 𝓤) (A : Atoms 𝓤) (mem : Memory → SProp 𝓤) (run : Routine → Fun 𝓤) where
   -- the contracts that the proof cites
@@ -394,9 +395,7 @@ module _ {M : Type 1} (𝓤 : URA M) (H : Heap 𝓤) (A : Atoms 𝓤) (W : Given
         qed W ((‵ (flft κ₀ q₀) ⊛ (‵ (flft κ q) ⊛ ‵ ftrue)) ∷ ‵ (owns (Cf.the-row ∷ u16 ∷ u16 ∷ usize ∷ Shr κ₀ ∷ MutSlice
         (named 1) κ T.the-row ∷ Mv.the-row ∷ []) a vals) ∷ []) ∵
         enter ! C Λ code.function (vc ∷ vint w16 states ∷ vint w16 initial ∷ vint w64 count ∷ vr ∷ s ∷ vm ∷ []) _ $
-        alloc1 ! (λ l₀. alloc1 ! (λ l₁. alloc1 ! (λ l₂. alloc1 ! (λ l₃. alloc1 ! (λ l₄. alloc1 ! (λ l₅. alloc1 ! (λ l₆. alloc1 ! (λ l₇. alloc1 !
-        (λ l₈. alloc1 ! (λ l₉. alloc1 ! (λ l₁₀. alloc1 ! (λ l₁₁. alloc1 ! (λ l₁₂. alloc1 ! (λ l₁₃. alloc1 ! (λ l₁₄. alloc1 ! (λ l₁₅. alloc1 !
-        (λ l₁₆. alloc0 ! $ params1 ! $
+        alloc1 ! {τ = Md′.mir} (λ l₀. alloc1 ! {τ = Cf′.mir} (λ l₁. alloc1 ! (λ l₂. alloc1 ! (λ l₃. alloc1 ! (λ l₄. alloc1 ! (λ l₅. alloc1 ! (λ l₆. alloc1 ! {τ = Mv′.mir} (λ l₇. alloc1 ! {τ = Pl′.mir} (λ l₈. alloc1 ! {τ = Wk′.mir} (λ l₉. alloc1 ! {τ = De′.mir} (λ l₁₀. alloc1 ! (λ l₁₁. alloc1 ! (λ l₁₂. alloc1 ! (λ l₁₃. alloc1 ! {τ = Wk′.mir} (λ l₁₄. alloc1 ! (λ l₁₅. alloc1 ! (λ l₁₆. alloc0 ! $ params1 ! $
         pass1 ! (init ! 30 refl (LL.lawful Cf.the-type Cf′.the-laws 𝓤 H A W .typed c _ gc .0)) $ pass1 ! (init ! 28 refl (tt, record { fits = gs })) $
         pass1 ! (init ! 26 refl (tt, record { fits = gi })) $ pass1 ! (init ! 24 refl (tt, record { fits = gn })) $ pass1 ! (init ! 22 refl (tt, tt)) $
         pass1 ! (init ! 20 refl (tt, (tt, (record { fits = room .0 }, tt)))) $
@@ -412,7 +411,7 @@ module _ {M : Type 1} (𝓤 : URA M) (H : Heap 𝓤) (A : Atoms 𝓤) (W : Given
         split ! $ move ! (1 ∷ []) $ use1 W (raw (fact 𝓤 (p ≡ lookOf c))) (look-of 𝓤 H A mem run c p) $ heard ! (p ≡ lookOf c) (λ ep. split ! $ drop ! $
         peeks ! Pl.the-row (Is Pl.the-row) (shows 𝓤 H A Pl.the-row) p (vp ∷ []) (λ ip.
         land ! (from ! (stop !)) (init ! 17 refl (LL.lawful Pl.the-type Pl′.the-laws 𝓤 H A W .typed p _ ip .0)) $
-        rewrite ! 17 (λ (z : Val). ‵ (fat fullShare (tyOf (code.function .locals) 8) l₈ 0 z)) (ap only (LL.tells Pl.the-type Pl′.the-laws p _ ip)) refl $
+        rewrite ! 17 (λ (z : Val). ‵ (fat fullShare (Pl′.mir) l₈ 0 z)) (ap only (LL.tells Pl.the-type Pl′.the-laws p _ ip)) refl $
         drop ! $
         assigns ! (addr ! (from ! (fld ! refl (hop ! (look-in ! 20 (sub ! 0 refl (whole !))) (stop !))))) (from ! (stop !)) (init ! 10 refl (tt, tt)) $
         assigns ! (agg ! (and-then ! (load ! (from ! (stop !)) (look ! 10 refl)) (and-then ! (load ! (from ! (fld ! refl (stop !))) (look-in ! 20
@@ -428,8 +427,8 @@ module _ {M : Type 1} (𝓤 : URA M) (H : Heap 𝓤) (A : Atoms 𝓤) (W : Given
         move ! (2 ∷ 0 ∷ []) $ use2 W (raw (Sweep 𝓤 H A mem run .pre (to-sweep 𝓤 H A mem run (ν ∷ []) fullShare (x δ ys) (p .n) (p .work) s vw₀)))
         (goes-sweep 𝓤 H A W mem run (ν ∷ []) fullShare (x δ ys) (p .n) (p .work) s vw₀ (ip′ .0 .1) (ip′ .1 .0)) $
         calls-at ! fm (Sweep 𝓤 H A mem run) known-sweep (to-sweep 𝓤 H A mem run (ν ∷ []) fullShare (x δ ys) (p .n) (p .work) s vw₀)
-        (and-then ! (load ! (from ! (stop !)) (look ! 14 refl)) (and-then ! (load ! (from ! (fld ! refl (stop !))) (look-in ! 22 (sub ! 0 refl (whole !))))
-        (and-then ! (load ! (from ! (fld ! refl (stop !))) (look-in ! 22 (sub ! 1 refl (whole !)))) (no-more !)))) (λ vw.
+        (and-then ! (load ! (from ! (stop !)) (look ! 14 refl)) (and-then ! (load ! (from ! (fld ! {τ = tyInt w64} {d = 0} refl (stop !))) (look-in ! 22 {τ = tyInt w64} (sub ! {τs = inPlan} 0 {τ = tyInt w64} {d = 0} refl (whole !))))
+        (and-then ! (load ! (from ! (fld ! {τ = Wk′.mir} {d = 8} refl (stop !))) (look-in ! 22 {τ = Wk′.mir} (sub ! {τs = inPlan} 1 {τ = Wk′.mir} {d = 8} refl (whole !)))) (no-more !)))) (λ vw.
         use1 W (later (some (λ (r : Work). ((‵ (flft (ν ∷ []) fullShare) ⊛ ‵ ftrue) ⊛ ‵ (Wk.the-row .own r (vw ∷ []))) ⊛ raw (ensured 𝓤 H A sweep.ended
         (sweep.clauses 𝓤 H A mem run) (ν ∷ [], tt) (x δ ys, (p .n, (p .work, tt))) tt r)))) (id⊢ 𝓤 _) $ await ! tt $ pick ! (λ w.
         split ! $ move ! (1 ∷ []) $ use1 W (some (λ (ls : List Pending × (Unit {0} × (Unit {0} × Unit {0}))). ‵ (lasts sweep.ended (ν ∷ [], tt) (
@@ -463,7 +462,7 @@ module _ {M : Type 1} (𝓤 : URA M) (H : Heap 𝓤) (A : Atoms 𝓤) (W : Given
         heard ! (Decides M₀ c m (length ys) w d) (λ ed. split ! $ move ! (1 ∷ []) $
         peeks ! De.the-row (Is De.the-row) (shows 𝓤 H A De.the-row) d (vd ∷ []) (λ id.
         land ! (from ! (stop !)) (init ! 20 refl (LL.lawful De.the-type De′.the-laws 𝓤 H A W .typed d _ id .0)) $
-        rewrite ! 20 (λ (z : Val). ‵ (fat fullShare (tyOf (code.function .locals) 10) l₁₀ 0 z)) (ap only (LL.tells De.the-type De′.the-laws d _ id)) refl $
+        rewrite ! 20 (λ (z : Val). ‵ (fat fullShare (De′.mir) l₁₀ 0 z)) (ap only (LL.tells De.the-type De′.the-laws d _ id)) refl $
         drop ! $
         -- [the cells' token; the list; its token; true; …; true; what m owns; _16; …]: local k at 7 + 2 (16 - k)
         assigns ! (addr ! (from ! (fld ! refl (hop ! (look-in ! 27 (sub ! 0 refl (whole !))) (stop !))))) (from ! (stop !)) (init ! 9 refl (tt, tt)) $
@@ -474,8 +473,8 @@ module _ {M : Type 1} (𝓤 : URA M) (H : Heap 𝓤) (A : Atoms 𝓤) (W : Given
         move ! (2 ∷ 1 ∷ []) $ use2 W (raw (Sweep 𝓤 H A mem run .pre (to-sweep 𝓤 H A mem run κ q (x γ (ls .0)) (d .n) (d .work) s vw₁)))
         (goes-sweep 𝓤 H A W mem run κ q (x γ (ls .0)) (d .n) (d .work) s vw₁ (id′ .1 .0 .1) (id′ .1 .1 .0)) $
         calls-at ! fm (Sweep 𝓤 H A mem run) known-sweep (to-sweep 𝓤 H A mem run κ q (x γ (ls .0)) (d .n) (d .work) s vw₁)
-        (and-then ! (load ! (from ! (stop !)) (look ! 6 refl)) (and-then ! (load ! (from ! (fld ! refl (stop !))) (look-in ! 18 (sub ! 1 refl (whole !))))
-        (and-then ! (load ! (from ! (fld ! refl (stop !))) (look-in ! 18 (sub ! 2 refl (whole !)))) (no-more !)))) (λ vz.
+        (and-then ! (load ! (from ! (stop !)) (look ! 6 refl)) (and-then ! (load ! (from ! (fld ! {τ = tyInt w64} {d = 40} refl (stop !))) (look-in ! 18 {τ = tyInt w64} (sub ! {τs = inDecided} 1 {τ = tyInt w64} {d = 40} refl (whole !))))
+        (and-then ! (load ! (from ! (fld ! {τ = Wk′.mir} {d = 48} refl (stop !))) (look-in ! 18 {τ = Wk′.mir} (sub ! {τs = inDecided} 2 {τ = Wk′.mir} {d = 48} refl (whole !)))) (no-more !)))) (λ vz.
         use1 W (later (some (λ (r : Work). ((‵ (flft κ q) ⊛ ‵ ftrue) ⊛ ‵ (Wk.the-row .own r (vz ∷ []))) ⊛ raw (ensured 𝓤 H A sweep.ended
         (sweep.clauses 𝓤 H A mem run) (κ, tt) (x γ (ls .0), (d .n, (d .work, tt))) tt r)))) (id⊢ 𝓤 _) $ await ! tt $ pick ! (λ z.
         split ! $ move ! (1 ∷ []) $ use1 W (some (λ (zs : List Pending × (Unit {0} × (Unit {0} × Unit {0}))). ‵ (lasts sweep.ended (κ, tt) (
@@ -488,7 +487,7 @@ module _ {M : Type 1} (𝓤 : URA M) (H : Heap 𝓤) (A : Atoms 𝓤) (W : Given
         move ! (2 ∷ []) $ split ! $ move ! (1 ∷ []) $ peeks ! Wk.the-row (Is Wk.the-row) (shows 𝓤 H A Wk.the-row) z (vz ∷ []) (λ iz.
         land ! (from ! (stop !)) (init ! 13 refl (EL.lawful Wk.the-type Wk′.the-laws 𝓤 H A W tt .typed z _ iz .0)) $ drop ! $
         -- [the list's token; the last list; …; the cells' token; true; …; true; what m owns; _16 at 8; …]
-        assigns ! (of-opd ! (load ! (from ! (fld ! refl (stop !))) (look-in ! 20 (sub ! 0 refl (whole !))))) (from ! (stop !)) (init ! 40 refl
+        assigns ! (of-opd ! (load ! (from ! (fld ! {τ = Md′.mir} {d = 0} refl (stop !))) (look-in ! 20 {τ = Md′.mir} (sub ! {τs = inDecided} 0 {τ = Md′.mir} {d = 0} refl (whole !))))) (from ! (stop !)) (init ! 40 refl
         (LL.lawful Md.the-type Md′.the-laws 𝓤 H A W .typed (d .moved) _ (id′ .0) .0)) $
         returns ! (look ! 40 refl) $
         forget ! 8 refl $ forget ! 10 refl $ forget ! 12 refl $ forget ! 14 refl $ forget ! 16 refl $ forget ! 18 refl $ forget ! 20 refl $
