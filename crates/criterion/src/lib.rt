@@ -24,7 +24,7 @@ pub fn above(k: Row, m: Row, u: u32) -> bool
 }
 
 // D ≤ V: whether k can respond before m, for the sum of late gaps after k up to m, in 1/256 tick.
-pub fn below(k: Row, m: Row, late: u32) -> bool
+fn below(k: Row, m: Row, late: u32) -> bool
     ensures { λ b. ⌜ Tells b (Below (said k) (said m) late) ⌝ }
 {
     if (late as u64) + (m.d as u64) * 256 < (k.d as u64) * 256 {

@@ -8,7 +8,7 @@ use lib.Seq.{length-take-le, drop-at, drop-drop}
 use Rattle.model.specs.Answers.{Fields}
 use Rattle.model.specs.Lists.{All, all-nil, all-cons}
 use Rattle.model.specs.Table.{Transition, Machine, Valid, InRange, at, none}
-use Rattle.model.proofs.Lists.{all-take, all-drop, all-append, all-at, all-map, all-image}
+use Rattle.model.proofs.Lists.{all-take, all-drop, all-append, all-part, all-at, all-map, all-image}
 use Rattle.table.specs.Tests.{Passes}
 use Rattle.records.specs.declared.Pending.{Pending}
 use Rattle.player.specs.declared.Config.{Config}
@@ -38,10 +38,6 @@ module _ {m : Machine} {c : Config} {l : List Pending} {mv : Move} {f : Fields} 
       let k : ℕ = c' .waiting in
       let e : n ≡ k + (n - k) = omega arith in
       rw e (sym (drop-drop (n - k) k l') ∙ ap (drop (n - k)) (ap (drop k) (o .is) ∙ drop-at (o .new) (drop k l) k (o .count)) ∙ drop-drop (n - k) k l)
-
-all-part : {P : Pending → Type 0} (a b : List Pending) → All P (a ++ b) → All P a × All P b
-all-part [] b x = (all-nil, x)
-all-part (p ∷ a) b (all-cons y x) = let r = all-part a b x in (all-cons y (r .0), r .1)
 
 module _ {m : Machine} (valid : Valid m) {c : Config} {l : List Pending} (whole : Whole m c l) where
   ranged : {i : ℕ} → i < length (m .transitions) → InRange (m .states) (at (m .transitions) i)

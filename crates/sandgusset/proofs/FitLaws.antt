@@ -32,9 +32,9 @@ use Rattle.player.specs.declared.Move.the-variants.{Time, Input, Output}
 use Rattle.player.specs.Moves.{waitingIn, moveTests, MoveDone}
 use Rattle.player_bytes.specs.Records.{configIn, lentIn, recordsIn}
 use Rattle.player_bytes.proofs.RoundLaws.{Narrow, records-small}
-use Rattle.sandgusset.specs.Packed.{packed, unpacked, In16Bits}
+use Rattle.answers.specs.Packed.{packed, unpacked, In16Bits}
 use Rattle.sandgusset.specs.Exports.{JudgeAnswer, OrderAnswer, JudgeTraceAnswer, ReplayAnswer, WordsAnswer, RewriteAnswer, PlayerStartAnswer, PlayerAnswer}
-use Rattle.sandgusset.proofs.PackLaws.{packed-apart}
+use Rattle.answers.proofs.PackLaws.{packed-apart}
 
 -- the number and the place of each test fit where all before it hold
 abbrev EachFits : List Test → Type 0

@@ -1,3 +1,2 @@
-pub mod PackLaws
 pub mod FitLaws
 pub mod OnlyLaws

@@ -23,7 +23,7 @@ use Rattle.player.specs.declared.Move.{Move}
 use Rattle.player_bytes.proofs.OnlyLaws.{start-fields-only, play-fields-only}
 use Rattle.verdict_bytes.proofs.TableOnly.{table-known}
 use Rattle.order_bytes.proofs.OrderOnly.{order-known}
-use Rattle.sandgusset.specs.Packed.{packed, unpacked}
+use Rattle.answers.specs.Packed.{packed, unpacked}
 use Rattle.sandgusset.specs.Exports.{JudgeAnswer, OrderAnswer, JudgeTraceAnswer, ReplayAnswer, WordsAnswer, RewriteAnswer, PlayerStartAnswer, PlayerAnswer}
 use Rattle.sandgusset.proofs.FitLaws.{judge-apart, order-apart}
 

@@ -11,7 +11,7 @@ use Rattle.verdict_bytes.specs.Tables.{JudgeTableBytesOutcome}
 use Rattle.order_bytes.specs.Orders.{OrderBytesOutcome}
 use Rattle.player.specs.declared.Move.{Move}
 use Rattle.player_bytes.specs.Plays.{StartBytesOutcome, PlayBytesOutcome}
-use Rattle.sandgusset.specs.Packed.{packed}
+use Rattle.answers.specs.Packed.{packed}
 
 pub record JudgeAnswer (file trace₀ stamps₀ : List ℕ) (r : ℕ) (trace stamps : List ℕ) : Type 0 where
   pub said : Fields

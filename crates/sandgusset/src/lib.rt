@@ -4,8 +4,6 @@ ghost use Rattle.sandgusset.specs.Exports.{JudgeAnswer, OrderAnswer, Jud
 ghost use Rattle.sandgusset.specs.Exports.{PlayerStartAnswer, PlayerAnswer};
 ghost use Rattle.player.specs.declared.Move.the-variants.{Time, Input, Output};
 
-mod answers;
-
 // The verdict on a table file.
 #[no_mangle]
 pub extern "C" fn sandgusset_judge(file: &[u8], trace: &mut [u8], stamps: &mut [u8]) -> u64

@@ -80,7 +80,7 @@ fn lowest(goal: Goal, cells: &Cells, count: usize, dist: &Marks) -> Found
 
 // The same, shown from the front of trace on. Nothing below what is overtaken first turns: where that does, no table of all starts is needed.
 // One call of write_from serves both tries, so that the sums of its walk and the table share their room.
-pub fn write_lowest(
+fn write_lowest(
     goal: Goal,
     cells: &Cells,
     count: usize,

@@ -1,7 +1,7 @@
 -- What is not named follows from the arithmetic around it.
 use borrow.Author.Needs.{needs}
-use Rattle.sandgusset.proofs.answers.on_words.Statement.{statement}
-use Rattle.sandgusset.proofs.answers.on_words.Tie as tie
+use Rattle.answers.proofs.written.Statement.{statement}
+use Rattle.answers.proofs.written.Tie as tie
 
 returns : tie.Need-returns
 returns c = rw (c .before .before .a .given .1) (c .pack .ensures)
@@ -9,7 +9,7 @@ returns c = rw (c .before .before .a .given .1) (c .pack .ensures)
 returns-2 : tie.Need-returns-2
 returns-2 c = rw (c .before .before .a2 .given .1) (c .refused .ensures)
 
-pub on-words-spec : {M : Type 1} → statement M
-on-words-spec =
+pub written-spec : {M : Type 1} → statement M
+written-spec =
     tie.close
     (tie.spec (λ c. search needs) (λ c. search needs) (λ c. search needs) (λ c. search needs) returns returns-2)

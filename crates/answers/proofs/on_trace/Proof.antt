@@ -1,7 +1,7 @@
 -- What is not named follows from the arithmetic around it.
 use borrow.Author.Needs.{needs}
-use Rattle.sandgusset.proofs.answers.on_table.Statement.{statement}
-use Rattle.sandgusset.proofs.answers.on_table.Tie as tie
+use Rattle.answers.proofs.on_trace.Statement.{statement}
+use Rattle.answers.proofs.on_trace.Tie as tie
 
 returns : tie.Need-returns
 returns c = rw (c .before .enum-told .given .1) (c .pack .ensures)
@@ -10,13 +10,10 @@ returns-2 : tie.Need-returns-2
 returns-2 c = rw (c .before .before .a .given .1) (c .pack2 .ensures)
 
 returns-3 : tie.Need-returns-3
-returns-3 c = rw (c .before .before .a2 .given .1) (c .pack3 .ensures)
+returns-3 c = rw (c .before .before .a2 .given .1) (c .refused .ensures)
 
-returns-4 : tie.Need-returns-4
-returns-4 c = rw (c .before .before .a3 .given .1) (c .refused .ensures)
-
-pub on-table-spec : {M : Type 1} → statement M
-on-table-spec =
+pub on-trace-spec : {M : Type 1} → statement M
+on-trace-spec =
     tie.close
     (tie.spec
     (λ c. search needs)
@@ -25,9 +22,6 @@ on-table-spec =
     (λ c. search needs)
     (λ c. search needs)
     (λ c. search needs)
-    (λ c. search needs)
-    (λ c. search needs)
     returns
     returns-2
-    returns-3
-    returns-4)
+    returns-3)

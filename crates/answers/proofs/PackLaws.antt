@@ -4,7 +4,7 @@ use Prim.Native.Nat.{ℕ, _+_, _*_, _%_, _/_, _<_}
 use native.Mathlib.Omega.{arith}
 use native.Mathlib.Nat.{div-div-eq-div-mul}
 use Rattle.model.specs.Answers.{Fields}
-use Rattle.sandgusset.specs.Packed.{packed, unpacked, In16Bits}
+use Rattle.answers.specs.Packed.{packed, unpacked, In16Bits}
 
 -- one field below what stands above it
 abbrev over : ℕ → ℕ → ℕ

@@ -17,7 +17,7 @@ ghost use Rattle.verdict.specs.OnTrace.{traceFields};
 ghost use Rattle.table_verdict.specs.OnTable.{tableFields};
 ghost use Rattle.table_order.specs.OnOrder.{orderFields};
 ghost use Rattle.player.specs.Answer.{answerFields};
-ghost use Rattle.sandgusset.specs.Packed.{packed};
+ghost use Rattle.answers.specs.Packed.{packed};
 
 // Four fields of 16 bits, the lowest first.
 fn pack(status: u16, first: usize, second: usize, steps: usize) -> u64
@@ -35,7 +35,7 @@ fn refused(r: Refusal) -> u64
     pack(table::number(r), table::place(r), 0, 0)
 }
 
-pub(crate) fn on_table(a: OnTable) -> u64
+pub fn on_table(a: OnTable) -> u64
     ensures { λ r. ⌜ r ≡ packed (tableFields a) ⌝ }
 {
     match a {
@@ -46,7 +46,7 @@ pub(crate) fn on_table(a: OnTable) -> u64
     }
 }
 
-pub(crate) fn on_order(a: OnOrder) -> u64
+pub fn on_order(a: OnOrder) -> u64
     ensures { λ r. ⌜ r ≡ packed (orderFields a) ⌝ }
 {
     match a {
@@ -57,7 +57,7 @@ pub(crate) fn on_order(a: OnOrder) -> u64
 }
 
 // n: the steps of the trace that was handed in.
-pub(crate) fn on_trace(a: OnTrace, n: usize) -> u64
+pub fn on_trace(a: OnTrace, n: usize) -> u64
     ensures { λ r. ⌜ r ≡ packed (traceFields n a) ⌝ }
 {
     match a {
@@ -67,7 +67,7 @@ pub(crate) fn on_trace(a: OnTrace, n: usize) -> u64
     }
 }
 
-pub(crate) fn replayed(a: Replayed) -> u64
+pub fn replayed(a: Replayed) -> u64
     ensures { λ r. ⌜ r ≡ packed (replayedFields a) ⌝ }
 {
     match a {
@@ -76,7 +76,7 @@ pub(crate) fn replayed(a: Replayed) -> u64
     }
 }
 
-pub(crate) fn on_words(a: Words) -> u64
+pub fn on_words(a: Words) -> u64
     ensures { λ r. ⌜ r ≡ packed (wordsFields a) ⌝ }
 {
     match a {
@@ -85,7 +85,7 @@ pub(crate) fn on_words(a: Words) -> u64
     }
 }
 
-pub(crate) fn written(a: Written) -> u64
+pub fn written(a: Written) -> u64
     ensures { λ r. ⌜ r ≡ packed (writtenFields a) ⌝ }
 {
     match a {
@@ -94,7 +94,7 @@ pub(crate) fn written(a: Written) -> u64
     }
 }
 
-pub(crate) fn played(a: Answer) -> u64
+pub fn played(a: Answer) -> u64
     ensures { λ r. ⌜ r ≡ packed (answerFields a) ⌝ }
 {
     match a {

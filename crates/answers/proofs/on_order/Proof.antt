@@ -1,7 +1,7 @@
 -- What is not named follows from the arithmetic around it.
 use borrow.Author.Needs.{needs}
-use Rattle.sandgusset.proofs.answers.on_trace.Statement.{statement}
-use Rattle.sandgusset.proofs.answers.on_trace.Tie as tie
+use Rattle.answers.proofs.on_order.Statement.{statement}
+use Rattle.answers.proofs.on_order.Tie as tie
 
 returns : tie.Need-returns
 returns c = rw (c .before .enum-told .given .1) (c .pack .ensures)
@@ -12,8 +12,8 @@ returns-2 c = rw (c .before .before .a .given .1) (c .pack2 .ensures)
 returns-3 : tie.Need-returns-3
 returns-3 c = rw (c .before .before .a2 .given .1) (c .refused .ensures)
 
-pub on-trace-spec : {M : Type 1} → statement M
-on-trace-spec =
+pub on-order-spec : {M : Type 1} → statement M
+on-order-spec =
     tie.close
     (tie.spec
     (λ c. search needs)

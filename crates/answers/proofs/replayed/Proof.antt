@@ -1,7 +1,7 @@
 -- What is not named follows from the arithmetic around it.
 use borrow.Author.Needs.{needs}
-use Rattle.sandgusset.proofs.answers.replayed.Statement.{statement}
-use Rattle.sandgusset.proofs.answers.replayed.Tie as tie
+use Rattle.answers.proofs.replayed.Statement.{statement}
+use Rattle.answers.proofs.replayed.Tie as tie
 
 returns : tie.Need-returns
 returns c = rw (c .before .enum-told .given .1) (c .pack .ensures)

@@ -1,7 +1,7 @@
 use borrow.Author.Needs.{needs}
 use Prim.Native.Nat.{_-_}
-use Rattle.sandgusset.proofs.answers.played.Statement.{statement}
-use Rattle.sandgusset.proofs.answers.played.Tie as tie
+use Rattle.answers.proofs.played.Statement.{statement}
+use Rattle.answers.proofs.played.Tie as tie
 
 enum-known-a : tie.Need-enum-known-a
 enum-known-a c = search needs
