@@ -635,6 +635,12 @@ rm -f asked
 mkdir other && ln -s "$kit/on" other/on && echo 'another toolchain' >other/KIT-ID
 kit=$work/other with_rt source.bin
 asked 'another toolchain: it is asked'
+rm -f asked
+with_rt source.bin
+rm -f asked
+cp -r fresh copied
+RATTLE_HOME=$kit PATH=$work/stand-in:$PATH copied/judge source.bin >out 2>err
+asked 'built from the files of another checkout: it is asked'
 printf '#!/bin/sh\necho "rt: judge NOT PROVED"\nexit 1\n' >stand-in/rt
 with_rt source.bin
 trouble 'the program was not built' 'a stale program is not run'

@@ -39,7 +39,7 @@ class Program:
         self.name, self.root, self.who = name, root, who
         self.target = os.path.join(root, "target")
         self.binary = os.path.join(self.target, "bin", name)
-        self.record = os.path.join(self.target, name + ".built")  # by which toolchain; its time is when the build began
+        self.record = os.path.join(self.target, name + ".built")  # the toolchain and the sources as they were when it was built
 
     # ---- Building ----
 
@@ -51,9 +51,7 @@ class Program:
             os.makedirs(self.target, exist_ok=True)
             with open(os.path.join(self.target, "judge.lock"), "w", encoding="ascii") as lock:
                 self.wait_for(lock)
-                lock.write("x")
-                lock.flush()
-                self.build(os.fstat(lock.fileno()).st_mtime_ns)
+                self.build()
         except OSError as error:
             if self.is_old():
                 raise Trouble(f"the program must be built, and that can't be done here: {error}") from None
@@ -72,7 +70,7 @@ class Program:
         for crate in needed_crates(self.root, self.name):
             for folder, _, names in os.walk(os.path.join(self.root, "crates", crate)):
                 places += [folder] + [os.path.join(folder, name) for name in names]
-        return places
+        return sorted(places)
 
     def is_old(self):
         """Is it missing, or has a source changed since it was built?"""
@@ -82,19 +80,26 @@ class Program:
         except OSError:
             return True
 
+    def seen(self):
+        """The toolchain, and each source as the file system has it: nobody can set a file's time of change."""
+        with open(os.path.join(toolchain_home(), "KIT-ID"), encoding="utf-8") as file:
+            lines = [file.read()]
+        for place in self.sources() + [os.path.realpath(toolchain_command())]:
+            state = os.stat(place)
+            lines.append(f"{place} {state.st_dev} {state.st_ino} {state.st_size} {state.st_ctime_ns}\n")
+        return "".join(lines)
+
     def is_untouched(self):
-        """Was it built here by this toolchain, and no source touched since that began? A file's time of change can't be set back."""
+        """Was it built here, by this toolchain, from just these files?"""
         try:
-            began = os.stat(self.record).st_mtime_ns
-            with open(self.record, encoding="utf-8") as file:
-                same = file.read() == toolchain_identity()
-            places = self.sources() + [os.path.realpath(toolchain_command())]
-            return same and os.path.exists(self.binary) and all(os.stat(place).st_ctime_ns < began for place in places)
+            with open(self.record, encoding="utf-8", errors="surrogateescape") as file:
+                return file.read() == self.seen() and os.path.exists(self.binary)
         except OSError:
             return False
 
-    def build(self, began):
+    def build(self):
         """Calls rt, which knows by content what has changed, and tells how far it is."""
+        seen = self.seen()  # before rt reads them: what is touched meanwhile differs from it
         stamp = os.path.join(self.target, "stamp", self.name)
         if not os.path.exists(self.binary) and os.path.exists(stamp):
             os.unlink(stamp)
@@ -113,10 +118,9 @@ class Program:
                         files.say(f"{self.who}: {done} of {len(crates)}: {proved.group(1)} proved ({proved.group(2)})")
         if process.returncode or not os.path.exists(self.binary):
             raise Trouble("\n".join(said + [f"{self.who}: the program was not built"]))
-        with open(self.record, "w", encoding="utf-8") as file:
-            file.write(toolchain_identity())
-        for place in self.binary, self.record:
-            os.utime(place, ns=(began, began))  # a source that was touched meanwhile is newer
+        os.utime(self.binary)
+        with open(self.record, "w", encoding="utf-8", errors="surrogateescape") as file:
+            file.write(seen)
 
     # ---- Running ----
 
@@ -143,12 +147,6 @@ def toolchain_command():
     if command is None:
         raise Trouble("the Rattle toolchain is needed: no command 'rt' on the PATH")
     return command
-
-
-def toolchain_identity():
-    """Where the toolchain is, and which one."""
-    with open(os.path.join(toolchain_home(), "KIT-ID"), encoding="utf-8") as file:
-        return toolchain_command() + "\n" + file.read()
 
 
 def toolchain_home():
