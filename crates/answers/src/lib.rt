@@ -1,3 +1,4 @@
+#![tactic(auto)]
 // An answer as one number.
 ghost use Rattle.std.specs.Prelude.{◌≡◌};
 ghost use Rattle.model.specs.Answers.{fields};

@@ -1,3 +1,4 @@
+#![tactic(auto)]
 // The criterion of a pair, on rows: every search goes by these.
 ghost use Rattle.std.specs.Prelude.{◌≡◌};
 ghost use Rattle.model.specs.Answers.{Tells};
@@ -9,7 +10,7 @@ ghost use Rattle.criterion.specs.Goals.{Meets, Told, Possible};
 use table::Row;
 
 // What a search asks of two steps.
-#[derive(Drop)]
+#[derive(Clone, Copy)]
 pub enum Goal {
     Turns,
     Overtakes,

@@ -1,3 +1,4 @@
+#![tactic(auto)]
 // Replay of a word whose order and due times are made within the two lent byte buffers themselves.
 ghost use Rattle.replay.specs.Laid.{WordRun};
 ghost use Rattle.replay.specs.Play.{replayed_fields};

@@ -1,3 +1,4 @@
+#![tactic(auto)]
 // Whether any transition can be overtaken by one that may come right after it. If none can, no step can overtake any other.
 ghost use Rattle.std.specs.Prelude.{◌≡◌, ◌+◌, min, ◌≤◌};
 ghost use Rattle.model.specs.Answers.{Tells};

@@ -1,3 +1,4 @@
+#![tactic(auto)]
 // A night of words for one trace in one call.
 ghost use Rattle.std.specs.Prelude.{◌≡◌, ◌*◌, length};
 ghost use Rattle.table.specs.Refusal.{checked_fields};
@@ -7,7 +8,7 @@ ghost use Rattle.night.specs.Night.{words_fields, Room, words_tests, WordsRun, W
 
 use table::{Cells, Checked, Refusal, Table};
 
-#[derive(Drop)]
+#[derive(Clone, Copy)]
 pub enum Words {
     Played(usize),
     Refused(Refusal),

@@ -1,3 +1,4 @@
+#![tactic(auto)]
 // The calls on byte buffers: a night of words. Start stamps, stamps and due times take places of four bytes, steps and marks places of two.
 ghost use Rattle.std.specs.Prelude.{◌*◌, ◌/◌, ◌≤◌, length};
 ghost use Rattle.model.specs.Table.{Valid};

@@ -1,3 +1,4 @@
+#![tactic(auto)]
 // The calls on byte buffers: the table as a file, transition and step numbers of two bytes, stamps and due times of four.
 ghost use Rattle.table_file.specs.Write.{written_fields};
 ghost use Rattle.replay.specs.Play.{replayed_fields};
@@ -23,7 +24,8 @@ pub fn rewrite_bytes(file: &[u8], out: &mut [u8]) -> Written
         return Written::Refused(Refusal::NoRoom);
     }
     // What a table that was read is written as is its file.
-    let n = bytes::copy(file, out);
+    let n = file.len();
+    out[..n].copy_from_slice(file);
     Written::Bytes(n)
 }
 

@@ -1,3 +1,4 @@
+#![tactic(auto)]
 // Whether a table keeps request order, in bytes: the table as a file, transition numbers of two bytes, stamps of four.
 ghost use Rattle.table_order.specs.OnOrder.{order_fields};
 ghost use Rattle.order_bytes.specs.Orders.{OrderBytesOutcome};

@@ -1,3 +1,4 @@
+#![tactic(auto)]
 // Lists in bytes: what a call on values is handed, and what it gives back. Every function is total.
 ghost use Rattle.std.specs.Prelude.{◌≡◌, take};
 ghost use Rattle.wire.specs.Bytes.{bytes, placed};

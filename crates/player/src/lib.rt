@@ -1,3 +1,4 @@
+#![tactic(auto)]
 // The bench player: a configuration by value, its waiting responses in a lent list of records, and the moves.
 ghost use Rattle.std.specs.Prelude.{◌≡◌, true, ◌≤◌, ◌<◌};
 ghost use Rattle.model.specs.Answers.{Tells};
@@ -13,7 +14,7 @@ use table::{Cells, Checked, Refusal, Row};
 mod open;
 
 // A configuration: the state, the inputs so far, the responses that wait, the time since the last input in 1/256 tick.
-#[derive(Drop)]
+#[derive(Clone, Copy)]
 pub struct Config {
     pub state: u16,
     pub inputs: u16,
@@ -21,7 +22,7 @@ pub struct Config {
     pub timer: u32,
 }
 
-#[derive(Drop)]
+#[derive(Clone, Copy)]
 pub enum Move {
     Time(u32),
     Input(u16),
@@ -29,7 +30,7 @@ pub enum Move {
 }
 
 // Done, with an input's transition or an output's step and letter; or a refusal.
-#[derive(Drop)]
+#[derive(Clone, Copy)]
 pub enum Answer {
     Done(u16, u16),
     Refused(Refusal),
@@ -41,28 +42,28 @@ pub enum Answer {
 }
 
 // The next configuration, with the answer.
-#[derive(Drop)]
+#[derive(Clone, Copy)]
 pub struct Moved {
     pub config: Config,
     pub answer: Answer,
 }
 
 // What a move hands back with a list by value.
-#[derive(Drop)]
+#[derive(Clone, Copy)]
 pub struct Held {
     pub moved: Moved,
     pub list: [Pending; 240],
 }
 
 // A sweep over the first n records.
-#[derive(Drop)]
+#[derive(Clone, Copy)]
 pub struct Plan {
     pub n: usize,
     pub work: Work,
 }
 
 // What a move comes to: what is handed back, and the sweep that the list goes through.
-#[derive(Drop)]
+#[derive(Clone, Copy)]
 pub struct Decided {
     pub moved: Moved,
     pub n: usize,

@@ -1,5 +1,5 @@
 -- A configuration and its records in bytes: "state (2 bytes), inputs so far (2), number waiting (2), timer (4)"; "step (2), letter (2), time left (4)".
-use Rattle.std.specs.Prelude.{List, [], ◌∷◌, ◌++◌, ℕ, zero, suc, ◌+◌, ◌*◌, ◌/◌, min, length, drop}
+use Rattle.std.specs.Prelude.{List, [], ◌∷◌, ◌++◌, ℕ, zero, suc, ◌+◌, ◌*◌, ◌/◌, min, length}
 use Rattle.wire.specs.Bytes.{le, bytes}
 use Rattle.records.specs.declared.Pending.{Pending}
 use Rattle.player.specs.declared.Config.{Config}

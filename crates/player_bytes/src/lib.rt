@@ -1,3 +1,4 @@
+#![tactic(auto)]
 // The bench player in bytes: the table as a file, a configuration of ten bytes, records of eight.
 ghost use Rattle.player.specs.Answer.{answer_fields};
 ghost use Rattle.player_bytes.specs.Plays.{StartBytesOutcome, PlayBytesOutcome};

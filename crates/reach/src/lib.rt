@@ -1,3 +1,4 @@
+#![tactic(auto)]
 // Which states can be reached, how far each is from the initial one, and the way there.
 ghost use Rattle.std.specs.Prelude.{◌≡◌, ◌≤◌, ◌<◌, replicate};
 ghost use Rattle.table.specs.Rows.{rows, said};

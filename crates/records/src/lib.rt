@@ -1,8 +1,10 @@
+#![tactic(auto)]
+
 ghost use Rattle.std.specs.Prelude.{◌≡◌, ◌-◌, ◌≤◌, ltb, eqb};
 ghost use Rattle.records.specs.Sweep.{pick, fine_of, seen_of, aged_of, turn_of, within_of, swept_in};
 
 // A waiting response: its step, its letter and the time that is left, in 1/256 tick.
-#[derive(Drop)]
+#[derive(Clone, Copy)]
 pub struct Pending {
     pub step: u16,
     pub letter: u16,
@@ -11,7 +13,7 @@ pub struct Pending {
 
 // What a look over the records has seen: whether they are in order, the greatest step that may stand before, the least time
 // left, and the lowest place that is due with its record.
-#[derive(Drop)]
+#[derive(Clone, Copy)]
 pub struct Seen {
     pub fine: bool,
     pub above: u16,
@@ -22,7 +24,7 @@ pub struct Seen {
 
 // What a sweep does: look; take a time off each record; close the gap at a place, up to a last place that keeps its
 // record, with the record that moves down; write a record to a place.
-#[derive(Drop)]
+#[derive(Clone, Copy)]
 pub enum Work {
     Look(Seen),
     Age(u32),
@@ -31,7 +33,7 @@ pub enum Work {
 }
 
 // What stands at the place next, and the work that goes on.
-#[derive(Drop)]
+#[derive(Clone, Copy)]
 pub struct Turned {
     pub next: Pending,
     pub work: Work,

@@ -1,3 +1,4 @@
+#![tactic(auto)]
 // Replay of a timed word on a trace.
 ghost use Rattle.std.specs.Prelude.{◌≡◌, ◌+◌, ◌*◌, ◌%◌, ◌^◌};
 ghost use Rattle.model.specs.Stamps.{gap_of};
@@ -12,14 +13,14 @@ use table::{Cells, Checked, Refusal, Table};
 pub mod gaps;
 mod responses;
 
-#[derive(Drop)]
+#[derive(Clone, Copy)]
 pub enum Replayed {
     Played,
     Refused(Refusal),
 }
 
 // Where a gap stands to the guard of its step.
-#[derive(Drop)]
+#[derive(Clone, Copy)]
 pub enum Guard {
     Inside,
     Early,
@@ -27,7 +28,7 @@ pub enum Guard {
 }
 
 // When a step arrives and when it is due, in 1/256 tick since the start.
-#[derive(Drop)]
+#[derive(Clone, Copy)]
 pub struct Moment {
     pub arrival: u32,
     pub due: u32,

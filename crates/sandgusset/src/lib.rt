@@ -1,3 +1,4 @@
+#![tactic(auto)]
 // What a C host links (include/sandgusset.h): the byte calls, each answer packed into one number.
 ghost use Rattle.sandgusset.specs.Exports.{JudgeAnswer, OrderAnswer, JudgeTraceAnswer, ReplayAnswer, WordsAnswer, RewriteAnswer};
 ghost use Rattle.sandgusset.specs.Exports.{PlayerStartAnswer, PlayerAnswer};

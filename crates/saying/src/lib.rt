@@ -1,22 +1,41 @@
-// What the programs read and print: a table file, numbers, refusals, verdicts. No contract can say what io reads or writes: that is run, not
+#![tactic(auto)]
+// What the programs read and print: a table file, numbers, refusals, verdicts. No contract can say what std reads or writes: that is run, not
 // proved. Every call is safe, ends and is lent nothing that it could change; a place that a list lacks is printed as 0.
-ghost use Rattle.std.specs.Prelude.{◌≡◌, get_or};
+ghost use Rattle.std.specs.Prelude.{◌≡◌, ◌≤◌, length, IfOk, get_or};
 
+use std::io;
+use std::io::Read;
 use table::{Checked, Refusal};
 use table_file::Reading;
 use table_order::OnOrder;
 use table_verdict::OnTable;
 
-pub fn say(text: &[u8])
+pub fn say(rt: &impl Print, text: &[u8]) -> io::Result<()>
     ensures { Unit {0} }
 {
-    io::write_all(1, text);
+    rt.write_all(text)
 }
 
-pub fn number(n: usize)
+pub fn number(rt: &impl Print, n: usize) -> io::Result<()>
     ensures { Unit {0} }
 {
-    io::print_decimal(1, n as u64);
+    rt.print(n)
+}
+
+// Reads standard input until buf is full or the input ends, and returns how many bytes it put at the start of buf.
+pub fn read_full(rt: &impl Input, buf: &mut [u8]) -> io::Result<usize>
+    ensures { IfOk result (λ n. n ≤ length buf.new) }
+{
+    let mut input = rt.reader();
+    let mut done = 0;
+    while done < buf.len() {
+        let n = input.read(&mut buf[done..])?;
+        if n == 0 {
+            break;
+        }
+        done += n;
+    }
+    Ok(done)
 }
 
 // The transition or step number at i.
@@ -52,55 +71,61 @@ fn wide_time(x: u32) -> usize
 }
 
 // Two numbers behind what stands there.
-fn two(first: usize, second: usize) {
-    say(b" ");
-    number(first);
-    say(b" ");
-    number(second);
+fn two(rt: &impl Print, first: usize, second: usize) -> io::Result<()> {
+    say(rt, b" ")?;
+    number(rt, first)?;
+    say(rt, b" ")?;
+    number(rt, second)
 }
 
 // A word and two numbers: a verdict with its pair.
-pub fn pair(name: &[u8], first: usize, second: usize)
+pub fn pair(rt: &impl Print, name: &[u8], first: usize, second: usize) -> io::Result<()>
     ensures { Unit {0} }
 {
-    say(name);
-    two(first, second);
+    say(rt, name)?;
+    two(rt, first, second)
 }
 
 // `refused N at P`.
-pub fn refusal(r: Refusal)
+pub fn refusal(rt: &impl Print, r: Refusal) -> io::Result<()>
     ensures { Unit {0} }
 {
-    say(b"refused ");
-    number(table::number(r) as usize);
-    say(b" at ");
-    number(table::place(r));
+    say(rt, b"refused ")?;
+    number(rt, table::number(r) as usize)?;
+    say(rt, b" at ")?;
+    number(rt, table::place(r))
 }
 
-// The table file on standard input; what is none is said. Later bytes can't change the answer; a read error counts as the end of input.
-pub fn read_input() -> Reading
+// The table file on standard input; what is none is said. Later bytes can't change the answer.
+pub fn read_input(rt: &(impl Input + Print)) -> io::Result<Reading>
     ensures { Unit {0} }
 {
     let mut file = [0u8; 8192];
-    let n = io::read_full(0, &mut file);
+    let n = read_full(rt, &mut file)?;
     let a = table_file::read_table(&file[..n]);
     let read = a.answer;
     if let Checked::Refused(r) = read {
-        refusal(r);
-        say(b"\n");
+        refusal(rt, r)?;
+        say(rt, b"\n")?;
     }
-    a
+    Ok(a)
 }
 
 // A line of four numbers: a step's.
-pub fn line(step: usize, first: usize, second: usize, third: usize)
+pub fn line(
+    rt: &impl Print,
+    step: usize,
+    first: usize,
+    second: usize,
+    third: usize,
+) -> io::Result<()>
     ensures { Unit {0} }
 {
-    number(step);
-    two(first, second);
-    say(b" ");
-    number(third);
-    say(b"\n");
+    number(rt, step)?;
+    two(rt, first, second)?;
+    say(rt, b" ")?;
+    number(rt, third)?;
+    say(rt, b"\n")
 }
 
 // The second trace differs from the first in its last number only.
@@ -109,28 +134,44 @@ fn other(number: usize, last: usize, step: usize, steps: usize) -> usize {
 }
 
 // Step, transition in each trace, stamp.
-fn split_lines(j: usize, n: usize, trace: &[u16], stamps: &[u32]) {
+fn split_lines(
+    rt: &impl Print,
+    j: usize,
+    n: usize,
+    trace: &[u16],
+    stamps: &[u32],
+) -> io::Result<()> {
     for s in 0..n {
         let number = step_at(trace, s);
         line(
+            rt,
             s + 1,
             number,
             other(number, j, s + 1, n),
             time_at(stamps, s),
-        );
+        )?;
     }
+    Ok(())
 }
 
 // Step, transition, late stamp, early stamp.
-fn turning_lines(m: usize, trace: &[u16], late: &[u32], early: &[u32]) {
+fn turning_lines(
+    rt: &impl Print,
+    m: usize,
+    trace: &[u16],
+    late: &[u32],
+    early: &[u32],
+) -> io::Result<()> {
     for s in 0..m {
         line(
+            rt,
             s + 1,
             step_at(trace, s),
             time_at(late, s),
             time_at(early, s),
-        );
+        )?;
     }
+    Ok(())
 }
 
 // The early word stands right after the late one.
@@ -142,44 +183,47 @@ fn after(stamps: &[u32], m: usize) -> &[u32] {
 }
 
 // The verdict on a table, with the lines of what it shows.
-pub fn on_table(v: OnTable, trace: &[u16], stamps: &[u32])
+pub fn on_table(rt: &impl Print, v: OnTable, trace: &[u16], stamps: &[u32]) -> io::Result<()>
     ensures { Unit {0} }
 {
     match v {
-        OnTable::Refused(r) => refusal(r),
-        OnTable::Strict => say(b"strict"),
-        OnTable::Split(i, j, _) => pair(b"split", i, j),
-        OnTable::Turning(k, m) => pair(b"turning", k, m),
+        OnTable::Refused(r) => refusal(rt, r)?,
+        OnTable::Strict => say(rt, b"strict")?,
+        OnTable::Split(i, j, _) => pair(rt, b"split", i, j)?,
+        OnTable::Turning(k, m) => pair(rt, b"turning", k, m)?,
     }
-    say(b"\n");
+    say(rt, b"\n")?;
     if let OnTable::Split(_, j, n) = v {
-        split_lines(j, n, trace, stamps);
+        split_lines(rt, j, n, trace, stamps)?;
     }
     if let OnTable::Turning(_, m) = v {
-        turning_lines(m, trace, stamps, after(stamps, m));
+        turning_lines(rt, m, trace, stamps, after(stamps, m))?;
     }
+    Ok(())
 }
 
 // Step, transition, stamp.
-fn overtaken_lines(m: usize, trace: &[u16], stamps: &[u32]) {
+fn overtaken_lines(rt: &impl Print, m: usize, trace: &[u16], stamps: &[u32]) -> io::Result<()> {
     for s in 0..m {
-        number(s + 1);
-        two(step_at(trace, s), time_at(stamps, s));
-        say(b"\n");
+        number(rt, s + 1)?;
+        two(rt, step_at(trace, s), time_at(stamps, s))?;
+        say(rt, b"\n")?;
     }
+    Ok(())
 }
 
 // Whether a table keeps request order, with the lines of what is shown.
-pub fn on_order(v: OnOrder, trace: &[u16], stamps: &[u32])
+pub fn on_order(rt: &impl Print, v: OnOrder, trace: &[u16], stamps: &[u32]) -> io::Result<()>
     ensures { Unit {0} }
 {
     match v {
-        OnOrder::Refused(r) => refusal(r),
-        OnOrder::InOrder => say(b"in order"),
-        OnOrder::Overtaken(k, m) => pair(b"overtaken", k, m),
+        OnOrder::Refused(r) => refusal(rt, r)?,
+        OnOrder::InOrder => say(rt, b"in order")?,
+        OnOrder::Overtaken(k, m) => pair(rt, b"overtaken", k, m)?,
     }
-    say(b"\n");
+    say(rt, b"\n")?;
     if let OnOrder::Overtaken(_, m) = v {
-        overtaken_lines(m, trace, stamps);
+        overtaken_lines(rt, m, trace, stamps)?;
     }
+    Ok(())
 }

@@ -1,9 +1,10 @@
 // What the calls leave in the memory that they are lent, and what several of them print.
+use std::io;
 use table::Refusal;
 
-pub(crate) fn say_refused(r: Refusal) {
-    saying::refusal(r);
-    saying::say(b"\n");
+pub(crate) fn say_refused(rt: &impl Print, r: Refusal) -> io::Result<()> {
+    saying::refusal(rt, r)?;
+    saying::say(rt, b"\n")
 }
 
 // Whether the places from n on, and from k on, are as they were lent; no case lends 1,200.
@@ -27,19 +28,32 @@ fn kept(steps: &[u16], n: usize, times: &[u32], k: usize) -> bool {
     true
 }
 
-pub(crate) fn say_rest(steps: &[u16], n: usize, times: &[u32], k: usize) {
+pub(crate) fn say_rest(
+    rt: &impl Print,
+    steps: &[u16],
+    n: usize,
+    times: &[u32],
+    k: usize,
+) -> io::Result<()> {
     if kept(steps, n, times, k) {
-        saying::say(b", rest kept\n");
+        saying::say(rt, b", rest kept\n")
     } else {
-        saying::say(b", rest CHANGED\n");
+        saying::say(rt, b", rest CHANGED\n")
     }
 }
 
 // Of three buffers: from n on in the first two, from w on in the marks.
-pub(crate) fn say_rest_marked(order: &[u16], due: &[u32], n: usize, marks: &[u16], w: usize) {
+pub(crate) fn say_rest_marked(
+    rt: &impl Print,
+    order: &[u16],
+    due: &[u32],
+    n: usize,
+    marks: &[u16],
+    w: usize,
+) -> io::Result<()> {
     if kept(order, n, due, n) {
-        say_rest(marks, w, due, n);
+        say_rest(rt, marks, w, due, n)
     } else {
-        say_rest(order, n, due, n);
+        say_rest(rt, order, n, due, n)
     }
 }

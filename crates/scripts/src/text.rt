@@ -2,7 +2,7 @@
 ghost use Rattle.std.specs.Prelude.{◌≤◌};
 
 // How many numbers were read, and where the next word begins.
-#[derive(Drop)]
+#[derive(Clone, Copy)]
 pub(crate) struct Read {
     pub(crate) count: usize,
     pub(crate) end: usize,
@@ -43,7 +43,7 @@ fn digit(c: u8) -> u64 {
 }
 
 // A number that is being read: how many stand before it, its digits so far, whether it has any.
-#[derive(Drop)]
+#[derive(Clone, Copy)]
 struct Scan {
     count: usize,
     x: u64,

@@ -1,3 +1,4 @@
+#![tactic(auto)]
 // The lowest transition that can be overtaken, by the soonest end of the walks from each state.
 ghost use Rattle.std.specs.Prelude.{◌≡◌, ◌+◌, min, ◌<◌, ◌≤◌};
 ghost use Rattle.model.specs.Answers.{Tells};

@@ -1,3 +1,4 @@
+#![tactic(auto)]
 // The first split pair: two transitions that leave one reached state, with one input and overlapping guards.
 ghost use Rattle.std.specs.Prelude.{◌≡◌, ◌≤◌, ◌<◌, max};
 ghost use Rattle.model.specs.Answers.{Tells};
@@ -8,7 +9,7 @@ use reach::{Marks, mark_of};
 use table::{Cells, Row, row_of};
 
 // The numbers of two transitions, the lower one first.
-#[derive(Drop)]
+#[derive(Clone, Copy)]
 pub enum Pair {
     At(usize, usize),
     Nothing,

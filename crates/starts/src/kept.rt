@@ -7,7 +7,7 @@ ghost use Rattle.starts.specs.Kept.{cap, Taken, Joined, Ended, Asked};
 use table::Row;
 
 // The greatest number, the letter of an end that has it, and the greatest number of the ends with another letter.
-#[derive(Drop)]
+#[derive(Clone, Copy)]
 pub(crate) struct Entry {
     pub first: u16,
     pub letter: u8,

@@ -1,3 +1,4 @@
+#![tactic(auto)]
 // The lowest transition that starts a pair that turns: one table, filled backwards from the ends of the walks, answers for all.
 ghost use Rattle.std.specs.Prelude.{◌≤◌};
 ghost use Rattle.criterion.specs.declared.Goal.TheVariants.{Turns};

@@ -1,3 +1,4 @@
+#![tactic(auto)]
 // The table value and its check.
 ghost use Rattle.std.specs.Prelude.{◌≡◌};
 ghost use Rattle.model.specs.Answers.{Tells};
@@ -12,7 +13,7 @@ pub mod rows;
 pub mod seen;
 
 // Refusals of more calls than the player's, each with the place that it names.
-#[derive(Drop)]
+#[derive(Clone, Copy)]
 pub enum Refusal {
     Cut(usize),
     Misplaced(usize),
@@ -27,7 +28,7 @@ pub enum Refusal {
 }
 
 // A transition on its own.
-#[derive(Drop)]
+#[derive(Clone, Copy)]
 pub struct Row {
     pub from: u16,
     pub input: u16,
@@ -42,7 +43,7 @@ pub struct Row {
 pub type Cells = [u16; 1792];
 
 // A table. Only the crate knows how the transitions stand in the cells.
-#[derive(Drop)]
+#[derive(Clone, Copy)]
 pub struct Table {
     pub states: u16,
     pub initial: u16,
@@ -50,7 +51,7 @@ pub struct Table {
     pub cells: Cells,
 }
 
-#[derive(Drop)]
+#[derive(Clone, Copy)]
 pub enum Checked {
     Sound,
     Refused(Refusal),

@@ -1,4 +1,7 @@
+#![tactic(auto)]
 // Document 01's reader cases, run: what each file is answered, and whether writing gives it back.
-fn main() {
-    scripts::run();
+use std::io;
+
+fn main(rt: HostRuntime) -> io::Result<()> {
+    scripts::run(&rt)
 }

@@ -1,3 +1,4 @@
+#![tactic(auto)]
 // The file of a table: its reader and its writer.
 ghost use Rattle.table.specs.Refusal.{checked_fields};
 ghost use Rattle.table.specs.Rows.{table_in, machine_of};
@@ -9,14 +10,14 @@ use table::{Cells, Checked, Refusal, Row, Table, check_parts};
 mod reader;
 mod writer;
 
-#[derive(Drop)]
+#[derive(Clone, Copy)]
 pub struct Reading {
     pub answer: Checked,
     pub table: Table,
 }
 
 // A reading without its cells.
-#[derive(Drop)]
+#[derive(Clone, Copy)]
 pub struct FileRead {
     pub answer: Checked,
     pub states: u16,
@@ -25,7 +26,7 @@ pub struct FileRead {
 }
 
 // The record at an offset: refused, a transition, or the end.
-#[derive(Drop)]
+#[derive(Clone, Copy)]
 pub(crate) enum Frame {
     Bad(Refusal),
     Took(Row),
@@ -33,27 +34,27 @@ pub(crate) enum Frame {
 }
 
 // The numbers of the head, or its refusal.
-#[derive(Drop)]
+#[derive(Clone, Copy)]
 pub(crate) enum Opening {
     Opened(u16, u16),
     Shut(Refusal),
 }
 
 // The number of transitions, or the first refusal among them.
-#[derive(Drop)]
+#[derive(Clone, Copy)]
 pub(crate) enum Counted {
     Count(usize),
     Stop(Refusal),
 }
 
 // What a record leads to: the one behind it, or the end of the reading.
-#[derive(Drop)]
+#[derive(Clone, Copy)]
 pub(crate) enum Taken {
     More,
     Ends(Counted),
 }
 
-#[derive(Drop)]
+#[derive(Clone, Copy)]
 pub enum Written {
     Bytes(usize),
     Refused(Refusal),

@@ -1,3 +1,4 @@
+#![tactic(auto)]
 // Whether a table keeps request order: can a later step respond before an earlier one?
 ghost use Rattle.table.specs.Rows.{table_in, machine_of};
 ghost use Rattle.table_order.specs.Decided.{CellsOutcome};
@@ -8,7 +9,7 @@ use table::{Cells, Checked, Refusal, Table};
 
 mod decide;
 
-#[derive(Drop)]
+#[derive(Clone, Copy)]
 pub enum OnOrder {
     InOrder,
     Overtaken(usize, usize),

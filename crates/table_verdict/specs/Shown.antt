@@ -1,5 +1,5 @@
 -- What a shown split leaves in the lent memory, before it is said what it shows, and what the search may count on.
-use Rattle.std.specs.Prelude.{◌≡◌, List, [], ◌∷◌, ◌++◌, ℕ, suc, ◌+◌, ◌≤◌, ◌<◌, length}
+use Rattle.std.specs.Prelude.{◌≡◌, List, [], ◌∷◌, ◌++◌, ℕ, ◌+◌, ◌≤◌, ◌<◌, length}
 use Rattle.model.specs.Lists.{over}
 use Rattle.model.specs.Table.{Transition, at}
 use Rattle.model.specs.Trace.{steps}

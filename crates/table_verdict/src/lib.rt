@@ -1,3 +1,4 @@
+#![tactic(auto)]
 // The verdict on a whole table.
 ghost use Rattle.model.specs.Answers.{Tells};
 ghost use Rattle.table.specs.Rows.{table_in, machine_of};
@@ -13,7 +14,7 @@ use table::{Cells, Checked, Refusal, Table};
 mod decide;
 mod show;
 
-#[derive(Drop)]
+#[derive(Clone, Copy)]
 pub enum OnTable {
     Strict,
     Split(usize, usize, usize),

@@ -1,3 +1,4 @@
+#![tactic(auto)]
 // The verdict on a trace in bytes: the table as a file, transition numbers of two bytes, stamps of four.
 ghost use Rattle.std.specs.Prelude.{◌/◌, length};
 ghost use Rattle.verdict.specs.OnTrace.{trace_fields};

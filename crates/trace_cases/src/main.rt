@@ -1,5 +1,8 @@
+#![tactic(auto)]
 // Document 01's replay and trace-verdict cases and document 02's of a night, run: each answer, what the call leaves in the lent memory, and whether
 // the rest is as it was lent.
-fn main() {
-    scripts::run();
+use std::io;
+
+fn main(rt: HostRuntime) -> io::Result<()> {
+    scripts::run(&rt)
 }

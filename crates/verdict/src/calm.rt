@@ -9,7 +9,7 @@ use crate::times::Numbers;
 use table::Cells;
 
 // Of the numbers from some step on, the least, and the least with another letter than that.
-#[derive(Drop)]
+#[derive(Clone, Copy)]
 pub(crate) struct Soon {
     pub first: u32,
     pub other: u32,

@@ -1,3 +1,4 @@
+#![tactic(auto)]
 // Verdicts: on a trace.
 ghost use Rattle.std.specs.Prelude.{length};
 ghost use Rattle.table.specs.Rows.{machine_of};
@@ -13,7 +14,7 @@ mod quiet;
 mod sight;
 mod times;
 
-#[derive(Drop)]
+#[derive(Clone, Copy)]
 pub enum OnTrace {
     Steady,
     Turning(usize, usize),

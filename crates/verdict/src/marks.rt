@@ -5,7 +5,7 @@ ghost use Rattle.verdict.specs.Marks.{mark_at, Covers};
 use crate::times::Numbers;
 
 // Due before `time` at the soonest, not before `late` at the latest, and with another letter.
-#[derive(Drop)]
+#[derive(Clone, Copy)]
 pub(crate) struct Mark {
     pub time: u32,
     pub late: u32,

@@ -12,14 +12,14 @@ use crate::{calm, quiet, sight, times};
 use table::Cells;
 
 // The step that turns with another.
-#[derive(Drop)]
+#[derive(Clone, Copy)]
 pub(crate) enum Partner {
     With(usize),
     Alone,
 }
 
 // The places of the steps k and m.
-#[derive(Drop)]
+#[derive(Clone, Copy)]
 pub(crate) enum Pair {
     At(usize, usize),
     Nowhere,

@@ -9,7 +9,7 @@ use crate::marks::Mark;
 use crate::times::Numbers;
 
 // The steps of a block look no further than `far`.
-#[derive(Drop)]
+#[derive(Clone, Copy)]
 pub(crate) struct Sight {
     pub block: usize,
     pub far: usize,

@@ -1,3 +1,4 @@
+#![tactic(auto)]
 // The verdict on a table in bytes: the table as a file, transition numbers of two bytes, stamps of four.
 ghost use Rattle.table_verdict.specs.OnTable.{table_fields};
 ghost use Rattle.verdict_bytes.specs.Tables.{JudgeTableBytesOutcome};

@@ -13,7 +13,7 @@ use table_file::FileRead;
 use table_verdict::OnTable;
 
 // How many trace places and stamp places a verdict uses.
-#[derive(Drop)]
+#[derive(Clone, Copy)]
 pub(crate) struct Places {
     pub steps: usize,
     pub stamps: usize,

@@ -1,3 +1,4 @@
+#![tactic(auto)]
 // The walks of a table with their sums: the walk from the first step of a pair of what is asked to its end.
 ghost use Rattle.walks.specs.Walks.{WalkOutcome};
 
@@ -10,7 +11,7 @@ mod sums;
 mod walk;
 
 // A number that was looked for.
-#[derive(Drop)]
+#[derive(Clone, Copy)]
 pub enum Found {
     At(usize),
     Nothing,

@@ -9,7 +9,7 @@ use criterion::Goal;
 use table::{Cells, Row};
 
 // The least u + d of all ends, one that has it, and the least of those that can be told apart from that one.
-#[derive(Drop)]
+#[derive(Clone, Copy)]
 pub(crate) struct Soonest {
     first: u32,
     end: Row,

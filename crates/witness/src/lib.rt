@@ -1,3 +1,4 @@
+#![tactic(auto)]
 // The trace that shows a pair of what is asked: the way to its first step, that step, the walk after it and its end.
 ghost use Rattle.std.specs.Prelude.{◌≡◌};
 ghost use Rattle.table.specs.Refusal.{checked_fields};
@@ -13,7 +14,7 @@ use table::{Cells, Checked, Refusal, row_of};
 use walks::Found;
 
 // A shown trace: how many steps stand before the pair's first one, and how many there are in all.
-#[derive(Drop)]
+#[derive(Clone, Copy)]
 pub enum Witness {
     Shown(usize, usize),
     Nothing,
