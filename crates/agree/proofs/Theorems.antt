@@ -44,6 +44,8 @@ trace-ends n ts r s e (i ∷ l) h p = trace-ends n ts r (at ts i).to e l (all-at
 
 -- the gaps of an activating word fit
 fit_all : (tr : List Transition) (gaps : List ℕ) → Both (Takes 256) tr (spelled tr gaps) → (i : ℕ) → i < length tr → Fits 256 (at tr i) (get_or gaps i 0)
+fit_all [] gaps _ i h = absurd (omega arith)
+fit_all (t ∷ tr) [] b i h = elim b [ ]
 fit_all (t ∷ tr) (g ∷ gs) (both_cons f b) zero h = f.fits
 fit_all (t ∷ tr) (g ∷ gs) (both_cons f b) (suc i) h = fit_all tr gs b i (omega arith)
 

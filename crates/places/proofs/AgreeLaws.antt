@@ -16,10 +16,14 @@ Agree (a ∷ k) (b ∷ l) =
     (a.number ≡ b.number) × (a.place ≡ b.place) × (a.holds → b.holds) × (b.holds → a.holds) × (a.holds → Agree k l)
 
 pub agree-passes : (k l : List Test) → Agree k l → Passes k → Passes l
+agree-passes (a ∷ k) [] g p = elim g [ ]
+agree-passes [] (b ∷ l) g p = elim g [ ]
 agree-passes [] [] g p = tt
 agree-passes (a ∷ k) (b ∷ l) g p = (g.2 p.0, agree-passes k l (g.4 p.0) p.1)
 
 pub agree-fails : (k l : List Test) (n p : ℕ) → Agree k l → Fails k n p → Fails l n p
+agree-fails (a ∷ k) [] n p g _ = elim g [ ]
+agree-fails [] l n p g f = elim f [ ]
 agree-fails (a ∷ k) (b ∷ l) n p g (inl f) = inl ((λ h. f.0 (g.3 h)), f.1 ∙ g.0, f.2 ∙ g.1)
 agree-fails (a ∷ k) (b ∷ l) n p g (inr f) = inr (g.2 f.0, agree-fails k l n p (g.4 f.0) f.1)
 

@@ -2,17 +2,14 @@
 use mathlib.Core.Path.{◌≡◌, refl, sym, ap, ◌∙◌, subst}
 use mathlib.Core.Logic.{inl, inr}
 use mathlib.Core.Bool.{true}
-use mathlib.Core.List.{List, [], ◌∷◌}
+use mathlib.Core.List.{List, ◌∷◌}
 use Prim.Native.Nat.{ℕ, ◌≤◌, ◌<◌}
 use native.Mathlib.Omega.{arith}
 use lib.ListN.{length}
-use types.Run.{OneOf}
-use denote.Enum.Declared.{tag_of}
 use Rattle.model.specs.Table.{Machine, Valid}
 use Rattle.table.specs.declared.Refusal.{Refusal}
 use Rattle.table.specs.declared.Refusal.TheVariants.{NoRoom}
 use Rattle.table.specs.declared.Checked.{Checked}
-use Rattle.table.specs.declared.Checked.TheVariants as Checked
 use Rattle.table.specs.Refusal.{checked_fields}
 use Rattle.table.specs.Tests.{unless, refuses, CheckOutcome}
 use Rattle.table.proofs.TestLaws.{refused-fails, valid-fails}
@@ -20,7 +17,6 @@ use Rattle.records.specs.declared.Pending.{Pending}
 use Rattle.records.specs.declared.Seen.{Seen}
 use Rattle.records.specs.declared.Work.{Work}
 use Rattle.records.specs.declared.Work.TheVariants.{Look}
-use Rattle.records.specs.contracts.Work as Wk
 use Rattle.player.specs.declared.Config.{Config}
 use Rattle.player.specs.declared.Move.{Move}
 use Rattle.player.specs.declared.Answer.TheVariants.{Refused, Damaged}
@@ -30,22 +26,14 @@ use Rattle.player.specs.Decide.{refused_of, Fits15, SeenIn, MoveDecides, Decides
 use Rattle.player.proofs.SeenLaws.{seen-look, seen-is, fine-whole, whole-fine}
 use Rattle.player.proofs.MoveLaws.{swept_none, move-decided}
 
-not-look : (w : Work) (s : Seen) → w ≡ Look s → OneOf (1 ∷ 2 ∷ 3 ∷ []) (tag_of Wk.the_type w) → ⊥
-not-look w s e h = go (subst (λ (z : Work). OneOf (1 ∷ 2 ∷ 3 ∷ []) (tag_of Wk.the_type z)) e h)
-  where
-    go : OneOf (1 ∷ 2 ∷ 3 ∷ []) (tag_of Wk.the_type (Look s)) → ⊥
-    go (inl e) = omega (arith, e)
-    go (inr (inl e)) = omega (arith, e)
-    go (inr (inr e)) = omega (arith, e)
-
 module _ (m : Machine) (c : Config) (mv : Move) (len : ℕ) where
   pub table-refused : (w : Work) {a : Checked} {r : Refusal} → a ≡ Checked.Refused r → CheckOutcome m (checked_fields a)
       → Decides m c mv len w (refused_of c (Refused r))
   table-refused w e x l long look =
       refuses refl (refused-fails m (unless 15 (Whole m c l) ∷ unless 8 (240 ≤ length l) ∷ move_tests m c l mv) e x) (refl, swept_none l)
 
-  pub never-look : (w : Work) → OneOf (1 ∷ 2 ∷ 3 ∷ []) (tag_of Wk.the_type w) → Decides m c mv len w (refused_of c Damaged)
-  never-look w h l long look = absurd (not-look w _ (seen-look c l look) h)
+  pub never-look : (w : Work) → ((s : Seen) → w ≡ Look s → ⊥) → Decides m c mv len w (refused_of c Damaged)
+  never-look w h l long look = absurd (h _ (seen-look c l look))
 
   module _ (s : Seen) (v : Valid m) where
     pub damaged : (Fits15 c m.states len × (s.fine ≡ true) → ⊥) → Decides m c mv len (Look s) (refused_of c Damaged)

@@ -214,6 +214,8 @@ module _ (m : Machine) (Q : Play → Type 0)
         → length p.trace + length l ≤ 512 → Played p l ss
     unfolding steps
     word [] [] p e good fresh path b few = record { play = p; good = good; trace = sym (append-nil p.trace); symbols = sym (append-nil p.symbols) }
+    word [] (s ∷ ss) p e good fresh path b few = elim b [ ]
+    word (i ∷ l) [] p e good fresh path b few = elim b [ ]
     word (i ∷ l) (s ∷ ss) p e good fresh path (both_cons tk b) few =
         let k : length p.trace < 512 = omega arith in
         let x = p₂ p good fresh i path.0 path.1 s tk k in

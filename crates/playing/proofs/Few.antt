@@ -59,6 +59,7 @@ module _ (low high q : ℕ) where
 
     -- no time left is above the greatest delay
     left-of : (l : List Wait) (timer : ℕ) → Tight l timer → (x : Wait) → In x l → x.left ≤ high * q
+    left-of [] timer s x h = elim h [ ]
     left-of (y ∷ l) timer s x (inl e) = let z : x.left ≡ y.left = ap (λ (v : Wait). v.left) e in omega (arith, s.0)
     left-of (y ∷ l) timer s x (inr m) = left-of l timer s.1 x m
 

@@ -15,6 +15,7 @@ use Rattle.reach.proofs.ReachLaws.{trace-marked, way-trace}
 
 -- a mark at a state that had none
 unmarked-put : (l : List ℕ) (t x : ℕ) → t < length l → mark l t ≡ 0 → unmarked l ≡ suc (unmarked (set l t (suc x)))
+unmarked-put mathlib.Core.List.[] t x h e = elim h [ ]
 unmarked-put (y ∷ l) zero x h e = let z : y ≡ 0 = e in rw z
 unmarked-put (zero ∷ l) (suc t) x h e = ap suc (unmarked-put l t x (omega arith) e)
 unmarked-put (suc y ∷ l) (suc t) x h e = unmarked-put l t x (omega arith) e

@@ -36,7 +36,7 @@ least-most (suc i) l s = omega (arith, least-most i l (seen_of (get_or l i blank
 pub least-low : (n : ℕ) (l : List Pending) (s : Seen) (j : ℕ) → j < n → (seen_from n l s).least ≤ (get_or l j blank).left
 least-low zero l s j h = absurd (omega arith)
 least-low (suc i) l s j h = ⊎_elim
-    (λ e. let e' : j ≡ i = omega (arith, e) in rw e' (omega (
+    (λ (e : suc j ≡ suc i). let e' : j ≡ i = omega arith in rw e' (omega (
       arith,
       least-most i l (seen_of (get_or l i blank) i s),
       lesser-left (get_or l i blank).left s.least,

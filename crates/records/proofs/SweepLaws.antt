@@ -1,8 +1,8 @@
 -- What each kind of sweep leaves in the list.
 use mathlib.Core.Path.{◌≡◌, refl, sym, ap, ◌∙◌}
-use mathlib.Core.Logic.{◌⊎◌, ⊎_elim}
+use mathlib.Core.Logic.{⊎_elim}
 use mathlib.Core.List.{List, [], ◌∷◌, ◌++◌, map, map-append, append_assoc}
-use Prim.Native.Nat.{ℕ, zero, suc, ◌+◌, ◌-◌, ◌≤◌, ◌<◌}
+use Prim.Native.Nat.{ℕ, zero, suc, ◌≤◌, ◌<◌}
 use native.Mathlib.Omega.{arith}
 use native.Mathlib.Nat.{eq-or-lt_of_le}
 use lib.ListN.{length, get_or, set, take, drop, length-set, length-take, take-append-drop}
@@ -23,7 +23,7 @@ drop_all (suc n) [] h = refl
 drop_all (suc n) (x ∷ l) h = drop_all n l (omega arith)
 
 -- one turn
-turn_is : (i : ℕ) (l : List Pending) (w : Work) (t : Turned) → turn_of (get_or l i blank) i w ≡ t → swept (suc i) l w ≡ swept i (set l i t.next) t.work
+pub turn_is : (i : ℕ) (l : List Pending) (w : Work) (t : Turned) → turn_of (get_or l i blank) i w ≡ t → swept (suc i) l w ≡ swept i (set l i t.next) t.work
 unfolding swept
 turn_is i l w t e = ap (λ (z : Turned). swept i (set l i z.next) z.work) e
 
@@ -37,7 +37,7 @@ list_of z = z.list
 abbrev work_of : Swept → Work
 work_of z = z.work
 
-none_left : (l : List Pending) (w : Work) → swept zero l w ≡ record { list = l; work = w }
+pub none_left : (l : List Pending) (w : Work) → swept zero l w ≡ record { list = l; work = w }
 unfolding swept
 none_left l w = refl
 

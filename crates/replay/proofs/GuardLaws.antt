@@ -1,8 +1,7 @@
 -- Of the guard test's answers exactly one holds of a gap, and what each is worth as a test of a step.
-use Rattle.std.proofs.Common.{◌≡◌, ℕ, ◌*◌, ◌≤◌, ◌⊎◌, List, ◌∷◌, sym, refl, ap, ◌∙◌, inl, inr, ⊎_elim, mul-le-mul_right, arith}
+use Rattle.std.proofs.Common.{◌≡◌, ℕ, ◌*◌, ◌≤◌, List, ◌∷◌, refl, inl, inr, mul-le-mul_right, arith}
 use mathlib.Core.Logic.{dite}
 use native.Mathlib.Decide.{dec_lt}
-use denote.Enum.Declared.{tag_of}
 use Rattle.model.specs.Answers.{fields}
 use Rattle.model.specs.Table.{Transition}
 use Rattle.model.specs.Word.{Fits, TooLate}
@@ -11,11 +10,6 @@ use Rattle.replay.specs.declared.Guard.{Guard}
 use Rattle.replay.specs.declared.Guard.TheVariants.{Inside, Early, Late}
 use Rattle.replay.specs.Guards.{Meets, guard_fields}
 use Rattle.replay.specs.Play.{unless_met}
-use Rattle.replay.specs.contracts.Guard.{the_type}
-
--- by the tags that the code tests
-pub not-inside : (c : Guard) → (tag_of the_type c ≡ 1) ⊎ (tag_of the_type c ≡ 2) → c ≡ Inside → ⊥
-not-inside c h e = let z = ap (tag_of the_type) e in ⊎_elim (λ x. omega (arith, sym x ∙ z)) (λ x. omega (arith, sym x ∙ z)) h
 
 module _ (q : ℕ) (t : Transition) (g : ℕ) where
   -- two answers that hold are one

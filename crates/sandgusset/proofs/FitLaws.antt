@@ -42,6 +42,7 @@ EachFits [] = Unit {0}
 EachFits (t ∷ l) = (t.number < 65536) × (t.place < 65536) × (t.holds → EachFits l)
 
 fails-fit : (l : List Test) (n p : ℕ) → EachFits l → Fails l n p → (n < 65536) × (p < 65536)
+fails-fit [] n p e x'' = elim x'' [ ]
 fails-fit (t ∷ l) n p e (inl f) = (rw f.1 e.0, rw f.2 e.1)
 fails-fit (t ∷ l) n p e (inr f) = fails-fit l n p (e.2 f.0) f.1
 

@@ -10,10 +10,9 @@ use borrow.Author.Count.{below_more}
 use lib.ListN.{length}
 use Rattle.model.specs.Answers.{Tells}
 use Rattle.model.specs.Lists.{LeastPair}
-use Rattle.model.specs.Table.{Transition, Machine, Valid, at}
-use Rattle.model.specs.Verdict.{Splits, SplitPair}
+use Rattle.model.specs.Table.{Transition, at}
+use Rattle.model.specs.Verdict.{SplitPair}
 use Rattle.model.proofs.Lists.{least-only}
-use Rattle.model.proofs.Split.{split-law}
 use Rattle.table.specs.declared.Row.{Row}
 use Rattle.table.specs.Rows.{rows, row_of, said}
 use Rattle.table.proofs.RowLaws.{row-known, length-rows}

@@ -12,7 +12,7 @@ use lib.ListN.{length, get_or, take, drop, length-append, length-take, length-dr
 use lib.Seq.{append_snoc, take-nil, take-take, drop_at, get_or-append_seam}
 use Rattle.model.specs.Lists.{All}
 use Rattle.model.specs.Lists.All.{all_nil, all_cons}
-use Rattle.model.specs.Table.{Transition, Machine, InRange, Valid, at, none}
+use Rattle.model.specs.Table.{Transition, Machine, InRange, Valid, none}
 use Rattle.model.proofs.Lists.{in_place}
 use Rattle.wire.specs.Bytes.{le, bytes, Bytes, les}
 use Rattle.wire.proofs.Bytes.{le-take, le-part, Held, les-front, les-bytes, bytes_drop, bytes-append, length-bytes}

@@ -1,11 +1,11 @@
 -- Two answers on one machine agree in all but the trace that is shown, and in everything if they show one trace.
 use mathlib.Core.Path.{◌≡◌, refl, sym, ap, subst, ◌∙◌}
-use mathlib.Core.List.{List, [], ◌∷◌, ◌++◌}
-use Prim.Native.Nat.{ℕ, ◌+◌, ◌-◌, ◌≤◌, ◌<◌}
+use mathlib.Core.List.{List, [], ◌∷◌}
+use Prim.Native.Nat.{ℕ, ◌-◌, ◌≤◌, ◌<◌}
 use native.Mathlib.Omega.{arith}
 use lib.ListN.{length, take, length-append}
 use lib.Seq.{take_at}
-use Rattle.model.specs.Answers.{Fields, fields}
+use Rattle.model.specs.Answers.{Fields}
 use Rattle.model.specs.Table.{Machine}
 use Rattle.model.specs.Verdict.{Strict}
 use Rattle.model.proofs.Lists.{least-only}

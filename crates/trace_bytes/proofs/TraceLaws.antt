@@ -1,6 +1,5 @@
 -- The verdict on a trace in bytes by the pair that was found for its numbers: each way out of the code.
-use Rattle.std.proofs.Common.{◌≡◌, ℕ, suc, ◌-◌, ◌*◌, ◌/◌, ◌<◌, ◌≤◌, ◌⊎◌, List, ◌++◌, length, take, refl, ap, ◌∙◌, subst, inl, inr, ⊎_elim, arith}
-use denote.Enum.Declared.{tag_of}
+use Rattle.std.proofs.Common.{◌≡◌, ℕ, suc, ◌-◌, ◌*◌, ◌/◌, ◌<◌, ◌≤◌, List, ◌++◌, length, take, refl, ap, ◌∙◌, subst, inl, inr, arith}
 use Rattle.model.specs.Answers.{fields}
 use Rattle.model.specs.Lists.{over}
 use Rattle.model.specs.Table.{Machine}
@@ -22,7 +21,6 @@ use Rattle.words.proofs.WordLaws.{shown-plain}
 use Rattle.verdict.specs.declared.OnTrace.{OnTrace}
 use Rattle.verdict.specs.declared.OnTrace.TheVariants.{Steady, Turning, Refused}
 use Rattle.verdict.specs.OnTrace.{trace_fields, pair_tests, TurnsAt, TraceSays, says_steady, says_turning, PairOutcome}
-use Rattle.verdict.specs.contracts.OnTrace.{the_type}
 use Rattle.verdict.proofs.JudgeLaws.{ready}
 use Rattle.places.specs.Places.{path_in, fitted, handed_on, Decoded}
 use Rattle.places.proofs.PlaceLaws.{decoded-take, handed-whole, trace-whole, whole-trace, trace-count}
@@ -39,7 +37,7 @@ module _ (cells : List ℕ) (count : ℕ) (nums : List ℕ) where
       absurd (omega (arith, ap (λ f. f.status) e, fails-numbered (pair_tests cells count nums) n p (omega arith) x))
   steady-settled (answers p d) = record { handed = p.1.1.0; says = d }
 
-  turning-settled : {i j : ℕ} → PairOutcome cells count nums (trace_fields (length nums) (Turning i j)) → Settled (Turning i j)
+  pub turning-settled : {i j : ℕ} → PairOutcome cells count nums (trace_fields (length nums) (Turning i j)) → Settled (Turning i j)
   turning-settled (refuses {n = n} {p = p} e x k) =
       absurd (omega (arith, ap (λ f. f.status) e, fails-numbered (pair_tests cells count nums) n p (omega arith) x))
   turning-settled (answers p d) = record { handed = p.1.1.0; says = d }
@@ -47,16 +45,16 @@ module _ (cells : List ℕ) (count : ℕ) (nums : List ℕ) where
   pub settled-as : {r q : OnTrace} → r ≡ q → Settled r → Settled q
   settled-as e s = subst (λ r. Settled r) e s
 
-  -- by the tags that the code tests
-  pub settled : (r : OnTrace) → (tag_of the_type r ≡ 0) ⊎ (tag_of the_type r ≡ 1) → PairOutcome cells count nums (trace_fields (length nums) r) → Settled r
+  -- by the variants that the code tests
+  pub settled : (r : OnTrace) → ((x : Refusal) → r ≡ Refused x → ⊥) → PairOutcome cells count nums (trace_fields (length nums) r) → Settled r
   settled Steady d x = steady-settled x
   settled (Turning i j) d x = turning-settled x
-  settled (Refused r) d x = absurd (⊎_elim (λ e. omega arith) (λ e. omega arith) d)
+  settled (Refused r) d x = absurd (d r refl)
 
-pub is-steady : (r : OnTrace) → (tag_of the_type r ≡ 0) ⊎ (tag_of the_type r ≡ 1) → (tag_of the_type r ≡ 0) ⊎ (tag_of the_type r ≡ 2) → r ≡ Steady
+pub is-steady : (r : OnTrace) → ((x : Refusal) → r ≡ Refused x → ⊥) → ((i j : ℕ) → r ≡ Turning i j → ⊥) → r ≡ Steady
 is-steady Steady d e = refl
-is-steady (Turning i j) d e = absurd (⊎_elim (λ q. omega arith) (λ q. omega arith) e)
-is-steady (Refused r) d e = absurd (⊎_elim (λ q. omega arith) (λ q. omega arith) d)
+is-steady (Turning i j) d e = absurd (e i j refl)
+is-steady (Refused r) d e = absurd (d r refl)
 
 same-fields : {s i j n a b c : ℕ} → i ≡ a → j ≡ b → n ≡ c → fields s i j n ≡ fields s a b c
 same-fields p q r = rw (p, q, r)

@@ -12,7 +12,7 @@ use Rattle.model.specs.Span.{sum_u}
 use Rattle.model.specs.Criterion.{Above}
 use Rattle.table.specs.declared.Row.{Row}
 use Rattle.table.specs.Rows.{row_of, said, named}
-use Rattle.table.proofs.NamedLaws.{length-named, step-named}
+use Rattle.table.proofs.NamedLaws.{step-named}
 use Rattle.verdict.specs.declared.pairs.Pair.TheVariants.{Nowhere}
 use Rattle.verdict.specs.Pairs.{PairOf, Overtaken, Quiet}
 use Rattle.verdict.proofs.PairLaws.{sofar, sum-next}

@@ -4,7 +4,6 @@ use mathlib.Core.Logic.{◌↔◌}
 use mathlib.Core.List.{List, [], ◌∷◌}
 use Prim.Native.Nat.{ℕ, ◌+◌, ◌-◌, ◌≤◌, ◌<◌}
 use native.Mathlib.Omega.{arith}
-use denote.Enum.Declared.{tag_of}
 use lib.ListN.{length}
 use Rattle.model.specs.Table.{Transition, at, none}
 use Rattle.model.specs.Trace.{Trace, steps}
@@ -17,11 +16,8 @@ use Rattle.model.proofs.CriterionLaws.{above-less, slack-fits, slack-most, slack
 use Rattle.criterion.specs.declared.Goal.{Goal}
 use Rattle.criterion.specs.Goals.{Meets, Possible}
 use Rattle.criterion.proofs.GoalLaws.{goal-sought, met-possible}
-use Rattle.walks.specs.declared.Found.{Found}
-use Rattle.walks.specs.declared.Found.TheVariants.{At, Nothing}
-use Rattle.walks.specs.Walks.{Seen, Walk, EndsIn, Least, Among}
+use Rattle.walks.specs.Walks.{Seen, Walk, EndsIn, Among}
 use Rattle.walks.specs.Best.{cell, Closes, ReadyFor}
-use Rattle.walks.specs.contracts.Found.{the_type}
 use Rattle.walks.proofs.WalkLaws.{sum-last, trace-last}
 use Rattle.walks.proofs.BestLaws.{cell-small}
 
@@ -121,11 +117,6 @@ module _ (goal : Goal) where
             let s = cell-small best a (at ts m).from z.roomy.fine (z.filled.row a (z.covers m dl.known p)) f.leaves in
             let l = slack-small (at ts k) (at ts m) (all-at none z.roomy.fine k df.known) f in
             omega (arith, number_is)
-
--- nothing was found
-pub least-not : (P : ℕ → Type 0) (r : Found) → Least P r → tag_of the_type r ≡ 1 → (x : ℕ) → P x → ⊥
-least-not P (At k) l e x p = absurd (omega arith)
-least-not P Nothing l e x p = l x p
 
 -- a loop that looks for the least number of which P holds
 module _ {P : ℕ → Type 0} where

@@ -44,7 +44,7 @@ use Rattle.witness.specs.declared.Witness.TheVariants.{Shown, Nothing as NoWitne
 use Rattle.witness.specs.Witness.{search_tests, goal_left, goal_stamps, goal_room, ShownOutcome, words_none, words_shown, WordsStand}
 use Rattle.witness.specs.Witness.{Marked, FromStands, FromOutcome, from_none, from_shown, WitnessOutcome, none_shown, none_fits, one_shown}
 use Rattle.witness.specs.Witness.{WitnessesAgree, agree_none, agree_shown, way_for, machine_with, ShowsPair, PairStands}
-use Rattle.witness.proofs.WayLaws.{way-number, way-short, way-traced, one-long, way-front, behind-way}
+use Rattle.witness.proofs.WayLaws.{way-number, way-short, way-traced, way-front, behind-way}
 
 -- by the words' definition, where what is asked is the criterion of a pair
 pub shows-lowest : (goal : Goal) (m : Machine) {Pair : List Transition → ℕ → ℕ → Type 0} → ((i : ℕ) → StepOf Pair m i ↔ WalkFrom (Meets goal) m i)

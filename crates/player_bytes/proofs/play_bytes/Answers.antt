@@ -1,0 +1,13 @@
+use mathlib.Core.Path.{refl}
+use Rattle.table_file.proofs.OutcomeLaws.{into-valid}
+use Rattle.places.proofs.ReadingLaws.{into-read}
+use Rattle.player_bytes.proofs.play_bytes.Goals as goal
+
+pub play_on-requires : goal.play_on-requires
+play_on-requires c =
+    into-valid _ (λ i. (c.type_inv.file i).fits) c.read_into-read.ensures refl
+
+pub returns : goal.returns
+returns c =
+    rw (into-read _ c.read_into-read.ensures (λ i. (c.type_inv.file i).fits) refl
+    c.in_default.is) c.play_on.ensures

@@ -1,0 +1,17 @@
+use native.Mathlib.Omega.{arith}
+use mathlib.Core.Path.{refl}
+use Rattle.table.specs.Rows.{machine_of}
+use Rattle.table_file.specs.File.{held_in}
+use mathlib.Core.Logic.{inl}
+use Rattle.table.specs.Tests.{refuses}
+use Rattle.player_bytes.proofs.PlayLaws.{start-refused}
+use Rattle.player_bytes.proofs.plays.start_on.Goals as goal
+
+pub returns-then-config-lt10 : goal.returns-then-config-lt10
+returns-then-config-lt10 c = refuses refl (inl ((λ r. omega (arith, r.0)), refl, refl)) refl
+
+pub returns-then-number-gt0 : goal.returns-then-number-gt0
+returns-then-number-gt0 c =
+    let a = c.args in
+    let m = machine_of (held_in a.read a.cells.now) in
+    start-refused m c.requires a.config.now a.lent (omega arith) (omega (arith, c.number.ensures)) c.start-moved.ensures

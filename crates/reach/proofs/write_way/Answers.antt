@@ -1,0 +1,49 @@
+-- The loop keeps that the steps after the n-th are written, and that s is where they begin.
+use native.Mathlib.Omega.{arith}
+use mathlib.Core.Path.{◌≡◌, ap, ◌∙◌}
+use Prim.Native.Nat.{◌-◌}
+use lib.ListN.{length, length-set}
+use Rattle.table.specs.declared.Row.{Row}
+use Rattle.table.specs.Rows.{row_of, said}
+use Rattle.reach.specs.Reach.{mark, way_in}
+use Rattle.reach.proofs.ReachLaws.{written-more, written_all, within_none, within-short, stands-none, stands-whole}
+use Rattle.reach.proofs.write_way.Goals as goal
+
+pub returns-then-m-eq0 : goal.returns-then-m-eq0
+returns-then-m-eq0 c =
+    let a = c.args in
+    let e : mark a.dist.now a.end ≡ 0 = omega arith in
+    stands-none a.cells.now a.dist.now a.via.now a.end a.trace.now
+    (within_none a.cells.now a.dist.now a.via.now a.end (length a.trace.now) e)
+
+pub returns-then-trace-steps : goal.returns-then-trace-steps
+returns-then-trace-steps c =
+    let a = c.args in
+    stands-none a.cells.now a.dist.now a.via.now a.end a.trace.now
+    (within-short a.cells.now a.dist.now a.via.now a.end (length a.trace.now) (omega arith))
+
+pub loop-n-preserved : goal.loop-n-preserved
+loop-n-preserved c =
+    let a = c.args in
+    let l = c.loop-n in
+    let steps = c.mark_of-m.result - 1 in
+    let e : c.mark_of-i.result ≡ way_in a.via.now l.s = c.mark_of-i.ensures in
+    let f : c.row_of-row.result.from ≡ (row_of a.cells.now (way_in a.via.now l.s)).from =
+    ap (λ (r : Row). r.from) (c.row_of-row.ensures ∙ ap (row_of a.cells.now) e) in (
+      omega arith,
+      omega arith,
+      omega arith,
+      simp length-set (omega arith),
+      rw (f, e) (written-more (λ i. said (row_of a.cells.now i)) a.via.now a.trace.now steps a.end l.trace l.n l.s
+          (omega arith) (omega arith) l.invariant.4),
+    )
+
+pub returns : goal.returns
+returns c =
+    let a = c.args in
+    let l = c.loop-n in
+    let steps = c.mark_of-m.result - 1 in
+    let z : l.n ≡ 0 = omega arith in
+    let k : steps ≡ mark a.dist.now a.end - 1 = l.invariant.1 in
+    rw k (stands-whole a.cells.now a.dist.now a.via.now a.end a.trace.now l.trace (omega arith) (rw k at
+    (written_all (λ i. said (row_of a.cells.now i)) a.via.now a.trace.now steps a.end l.trace l.s (rw z at l.invariant.4))))

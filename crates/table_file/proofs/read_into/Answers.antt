@@ -1,0 +1,6 @@
+-- What is not named follows from what is known around it.
+use Rattle.table_file.proofs.ReadLaws.{into-refused}
+use Rattle.table_file.proofs.read_into.Goals as goal
+
+pub returns-in-Refused : goal.returns-in-Refused
+returns-in-Refused c = into-refused _ _ c.scan-a.ensures c.in-Refused.is

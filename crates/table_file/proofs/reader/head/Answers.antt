@@ -1,0 +1,26 @@
+use native.Mathlib.Omega.{arith}
+use mathlib.Core.Path.{sym, ◌∙◌}
+use Rattle.table_file.proofs.FrameLaws.{whole-other, whole-cut, whole-yes, head-short, head-other, head-cut, head-whole}
+use Rattle.table_file.proofs.reader.head.Goals as goal
+
+pub returns-then-file-lt4 : goal.returns-then-file-lt4
+returns-then-file-lt4 c = head-short c.args.file.now c.if-file-lt4.true
+
+pub returns-then-two-ne1 : goal.returns-then-two-ne1
+returns-then-two-ne1 c = head-other c.args.file.now c.if-file-lt4.false (λ e. c.if-two-ne1.true (c.two.ensures ∙ e))
+
+pub returns-then-two-ne6 : goal.returns-then-two-ne6
+returns-then-two-ne6 c =
+    let l = c.args.file.now in
+    head-cut l c.if-file-lt4.false (sym c.two.ensures ∙ c.if-two-ne1.false) (whole-other 6 l (λ e. c.if-two-ne6.true (c.two-2.ensures ∙ e)))
+
+pub returns-then-file-lt8 : goal.returns-then-file-lt8
+returns-then-file-lt8 c =
+    let l = c.args.file.now in
+    head-cut l c.if-file-lt4.false (sym c.two.ensures ∙ c.if-two-ne1.false) (whole-cut 6 l (omega arith))
+
+pub returns : goal.returns
+returns c =
+    let l = c.args.file.now in
+    c.opened.ensures ∙ head-whole l c.if-file-lt4.false (sym c.two.ensures ∙ c.if-two-ne1.false)
+    (whole-yes 6 l (sym c.two-2.ensures ∙ c.if-two-ne6.false) (omega arith))

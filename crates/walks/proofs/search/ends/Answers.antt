@@ -1,0 +1,9 @@
+use native.Mathlib.Omega.{arith}
+use Rattle.table.proofs.RowLaws.{length-rows}
+use Rattle.walks.proofs.EndLaws.{end_known, least-none}
+use Rattle.walks.proofs.search.ends.Goals as goal
+
+pub returns : goal.returns
+returns c =
+    let a = c.args in
+    least-none (λ x t. end_known a.goal t) (omega (arith, length-rows a.cells.now a.count)) c.loop-m.invariant.1

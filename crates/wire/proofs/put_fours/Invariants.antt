@@ -1,0 +1,11 @@
+-- What is not named follows from the arithmetic around it.
+use Prim.Native.Nat.{◌-◌}
+use lib.ListN.{length}
+use Rattle.wire.proofs.Bytes.{Storing}
+use Rattle.wire.proofs.put_fours.Given as goal
+
+abbrev pub invariant-loop-i : goal.invariant-loop-i
+invariant-loop-i l = Storing 4 l.initial.out l.k l.vals l.out l.i
+
+abbrev pub decreases-loop-i : goal.decreases-loop-i
+decreases-loop-i l = length l.vals - l.i
