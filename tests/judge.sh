@@ -21,7 +21,7 @@ table=$root/tools/table
 # The programs themselves, as ./judge runs them.
 PYTHONPATH=$root/tools python3 -B -m desk.program | mapfile -t program
 PYTHONPATH=$root/tools python3 -B -m desk.program order | mapfile -t order_program
-[ "${#program[@]}" -gt 1 ] && [ "${#order_program[@]}" -gt 1 ] || exit 1
+[ -x "${program[0]-}" ] && [ -x "${order_program[0]-}" ] || exit 1
 
 # run ARGUMENT...: calls the script on standard input; its output is in out and err, its status in $status.
 options=()  # of every call
@@ -375,7 +375,7 @@ in_pieces() {
     shift 2
     pieces "$@" | timeout 120 "$judge" 2>/dev/null | head -n 1 | grep -qx "$line"
     verdict "in pieces: $name" $?
-    pieces "$@" | timeout 120 "${program[@]}" | head -n 1 | grep -qx "$line"
+    pieces "$@" | timeout 120 "${program[@]}" | sed -n 1p | grep -qx "$line"
     verdict "in pieces, the program itself: $name" $?
 }
 for file in source full; do
@@ -394,6 +394,23 @@ in_pieces 'cut off' 'refused 1 at 26' cut.bin 10 16
 # shellcheck disable=SC2046
 in_pieces 'byte by byte' 'turning 1 3' source.bin $(yes 1 | head -n 65)
 pieces "$root/examples/source-trace.table" 1 2 3 400 | answers 'in pieces: a text' "${source_lines[@]}"
+
+# ---- What cannot be read or written ends the program, and is said ----
+
+# ended NAME: the program itself ended with status 1 and said so by one line on standard error, and printed nothing.
+ended() {
+    [ "$status" -eq 1 ] && [ ! -s out ] && [ "$(wc -l <err)" -eq 1 ] && grep -q '^Error: ' err
+    verdict "$1" $?
+}
+for one in "${program[0]}" "${order_program[0]}"; do
+    "$one" <"$work" >out 2>err
+    status=$?
+    ended "a read error, the program itself: ${one##*/}"
+    "$one" <source.bin 2>err >/dev/full
+    status=$?
+    : >out
+    ended "a failed write, the program itself: ${one##*/}"
+done
 
 # ---- Text or table file: text is UTF-8 without control characters, and its first word begins a line ----
 
@@ -533,18 +550,18 @@ trouble "no command 'python3'" 'no Python'
 
 # The checkout, as it must be for the script: the program as it is built, and the sources of the script.
 checkout() {
-    mkdir -p "$1/crates/judge" "$1/crates/order" "$1/tools"
+    mkdir -p "$1/crates/judge/src" "$1/crates/order/src" "$1/tools"
     cp "$judge" "$1/judge"
     cp -r "$root/tools/desk" "$1/tools/"
-    printf 'wire:\ntable: wire  # the reader\njudge: table io\nother: judge\norder: table\n' >"$1/crates.txt"
-    touch "$1/crates/judge/main"
+    printf 'wire:\ntable: wire  # the reader\njudge status=0: table io\nother staticlib: judge\norder: table\n' >"$1/crates.txt"
+    touch "$1/crates/judge/src/main"
 }
 
 # A checkout that may not be written, and a file that may not be read, asked for by another user.
 chmod 755 "$work"
 checkout sealed
-mkdir -p sealed/target/bin
-cp "$root/target/bin/judge" sealed/target/bin/judge
+mkdir -p sealed/crates/judge/out
+cp "${program[0]}" sealed/crates/judge/out/judge
 cp source.bin secret.bin
 chmod 000 secret.bin
 chmod -R a-w,a+rX sealed
@@ -555,13 +572,13 @@ another_user sealed/judge secret.bin >out 2>err
 status=$?
 trouble 'secret\.bin: may not be read' 'a file that may not be read'
 chmod -R u+w sealed
-touch -d '+1 minute' sealed/crates/judge/main
+touch -d '+1 minute' sealed/crates/judge/src/main
 chmod -R a-w sealed
 another_user sealed/judge source.bin >out 2>err
 status=$?
 trouble 'must be built.*can.t be done here.*Permission denied' 'a source is newer, and nothing may be written'
 chmod -R u+w sealed
-rm sealed/target/bin/judge
+rm sealed/crates/judge/out/judge
 chmod -R a-w sealed
 another_user sealed/judge source.bin >out 2>err
 status=$?
@@ -593,26 +610,29 @@ grep -q 'fn judge::main: no proof' err
 verdict 'a build that fails: why' $?
 cat >stand-in/rt <<STAND_IN
 #!/bin/sh
-case \$* in 'check judge' | 'check order') ;; *) exit 2 ;; esac
+name=\${PWD##*/}
+case "\$* \$name" in 'run judge' | 'run order') ;; *) exit 2 ;; esac
 cat >/dev/null
-echo "\$2" >>"$work/asked"
-mkdir -p target/bin target/stamp
-cp "$root/target/bin/\$2" "target/bin/\$2"
-echo built >"target/stamp/\$2"
-echo 'rt: wire proved (unchanged since it was last proved)'
-echo 'rt: table proved (2 s)'
-echo "rt: \$2 proved (1 s)"
+echo "\$name" >>"$work/asked"
+mkdir -p out
+cp "$root/crates/\$name/out/\$name" "out/\$name"
+for crate in table "\$name"; do
+    echo "rt: chose --jobs 2 for \$crate"
+    echo "fn \$crate::some: proved"
+    echo 'logic=proved functions=1'
+done
+echo 'refused 1 at 0'
 STAND_IN
 with_rt <source.bin
 printf '%s\n' "${source_lines[@]}" | cmp -s - out && [ "$status" -eq 1 ]
 verdict 'a fresh folder: the program is built and the input is not lost' $?
 printf 'judge: %s\n' 'building what is missing or has changed; from nothing this takes minutes' \
-    '2 of 3: table proved (2 s)' '3 of 3: judge proved (1 s)' | cmp -s - err
+    '2 of 3: table proved (N s)' '3 of 3: judge proved (N s)' | cmp -s - <(sed 's/([0-9]* s)$/(N s)/' err)
 verdict 'a fresh folder: how far it is, on standard error' $?
 with_rt --order <source.bin
-printf '%s\n' "${order_lines[@]}" | cmp -s - out && [ "$status" -eq 1 ] && grep -qx 'judge: 3 of 3: order proved (1 s)' err && [ "$(wc -l <err)" -eq 3 ]
+printf '%s\n' "${order_lines[@]}" | cmp -s - out && [ "$status" -eq 1 ] && grep -qx 'judge: 3 of 3: order proved ([0-9]* s)' err && [ "$(wc -l <err)" -eq 3 ]
 verdict 'order: its program is built when it is asked for' $?
-rm fresh/target/bin/judge
+rm fresh/crates/judge/out/judge
 with_rt source.bin
 printf '%s\n' "${source_lines[@]}" | cmp -s - out && [ "$status" -eq 1 ] && grep -q 'building' err
 verdict 'a program that was removed is built again' $?
@@ -622,17 +642,33 @@ not_asked() { printf '%s\n' "${source_lines[@]}" | cmp -s - out && [ ! -e asked 
 rm -f asked
 with_rt source.bin
 not_asked 'nothing was touched since it was built: the toolchain is not asked'
-touch -d '1 hour ago' fresh/crates/judge/main
+touch -d '1 hour ago' fresh/crates/judge/src/main
 with_rt source.bin
 asked 'a source that was touched, its time set back: it is asked'
 rm -f asked
 with_rt source.bin
 not_asked 'and not again'
-touch fresh/crates/judge/more
+touch fresh/crates/judge/src/more
 with_rt source.bin
 asked 'a new file: it is asked'
 rm -f asked
-mkdir other && ln -s "$kit/on" other/on && echo 'another toolchain' >other/KIT-ID
+# gate NAME: notes for the gate in that folder, before it or once it has passed.
+gate() { (cd fresh && RATTLE_HOME=$kit PATH=$work/stand-in:$PATH PYTHONPATH=tools python3 -B -m desk.program "$@"); }
+rm fresh/target/judge.built
+gate --before judge && cp "${program[0]}" fresh/crates/judge/out/judge && gate --after judge
+with_rt source.bin
+not_asked 'the gate has built the program: the toolchain is not asked'
+rm fresh/target/judge.built
+gate --before judge && touch fresh/crates/judge/src/more && gate --after judge
+with_rt source.bin
+asked 'a source that was touched while the gate ran: it is asked'
+rm -f asked
+rm fresh/target/judge.built fresh/crates/judge/out/judge
+gate --before judge && gate --after judge
+with_rt source.bin
+asked 'a gate that built no program: it is asked'
+rm -f asked
+mkdir other && echo 'another toolchain' >other/KIT-ID
 kit=$work/other with_rt source.bin
 asked 'another toolchain: it is asked'
 rm -f asked
@@ -645,13 +681,19 @@ printf '#!/bin/sh\necho "rt: judge NOT PROVED"\nexit 1\n' >stand-in/rt
 with_rt source.bin
 trouble 'the program was not built' 'a stale program is not run'
 printf '#!/bin/sh\nexit 0\n' >stand-in/rt
-rm fresh/target/bin/judge
+rm fresh/crates/judge/out/judge
 with_rt source.bin
 trouble 'the program was not built' 'a build that builds nothing'
-printf '#!/bin/sh\ncp /bin/true target/bin/judge\n' >stand-in/rt
+printf '#!/bin/sh\ncp /bin/true out/judge\n' >stand-in/rt
 with_rt source.bin
 [ "$status" -eq 3 ] && [ ! -s out ] && [ -s err ]
 verdict 'a program that does not answer' $?
+printf '#!/bin/sh\nprintf "#!/bin/sh\\necho strict; echo Error: no more >&2; exit 1" >out/judge\n' >stand-in/rt
+touch fresh/crates/judge/src/more
+with_rt source.bin
+trouble '^judge: the program ended with status 1' 'a program that ends with an error: its answer does not count'
+grep -qx 'Error: no more' err
+verdict 'a program that ends with an error: why' $?
 
 # Calls at the same time do not disturb each other.
 for i in 1 2 3 4; do

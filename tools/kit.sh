@@ -1,3 +1,3 @@
-# Where the Rattle kit keeps what is made for this machine: sourced, sets toolchain.
+# Where the Rattle kit keeps its linker and C library: sourced, sets toolchain.
 kit=${RATTLE_HOME:-$(dirname "$(dirname "$(readlink -f "$(command -v rt)")")")}
-toolchain=$kit/on/$(uname -m)/toolchain
+toolchain=$kit/toolchain

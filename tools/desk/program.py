@@ -2,33 +2,39 @@
 
 import fcntl
 import os
-import platform
 import re
 import shutil
 import subprocess
 import sys
+import time
 
 from desk import files
 from desk.files import Trouble
 
 ROOT = os.path.dirname(os.path.dirname(os.path.dirname(os.path.realpath(__file__))))
-SAID = re.compile(r"rt: (\w+) proved \((.*)\)")
+PARTS = ("src", "specs", "proofs")  # of a crate, what a program is proved and built from
+BEGUN = re.compile(r"rt: chose --jobs \d+ for (\w+)")
 
 
 def needed_crates(root, name):
-    """A program's crate and all that it rests on, by crates.txt; the toolchain's own crates are not listed there."""
+    """A program's crate and all that it rests on, by crates.txt, each after those that it rests on, as rt proves them; the
+    toolchain's own crates are not listed there."""
     rests = {}
     with open(os.path.join(root, "crates.txt"), encoding="utf-8") as file:
         for line in file:
             crate, colon, others = line.split("#", 1)[0].partition(":")
-            if colon:
-                rests[crate.strip()] = others.split()
-    found, todo = [], [name]
-    while todo:
-        crate = todo.pop()
-        if crate in rests and crate not in found:
+            if colon and crate.split():
+                rests[crate.split()[0]] = others.split()  # words may stand behind the name, such as staticlib
+    found, met = [], set()
+
+    def take(crate):
+        if crate in rests and crate not in met:
+            met.add(crate)
+            for other in rests[crate]:
+                take(other)
             found.append(crate)
-            todo += rests[crate]
+
+    take(name)
     return found
 
 
@@ -37,9 +43,11 @@ class Program:
 
     def __init__(self, name="judge", root=ROOT, who="judge"):
         self.name, self.root, self.who = name, root, who
+        self.crate = os.path.join(root, "crates", name)
+        self.binary = os.path.join(self.crate, "out", name)
         self.target = os.path.join(root, "target")
-        self.binary = os.path.join(self.target, "bin", name)
         self.record = os.path.join(self.target, name + ".built")  # the toolchain and the sources as they were when it was built
+        self.begun = os.path.join(self.target, name + ".begun")  # the same as they are before the gate
 
     # ---- Building ----
 
@@ -68,8 +76,9 @@ class Program:
         """Every file and folder that it is made from."""
         places = [os.path.join(self.root, "crates.txt")]
         for crate in needed_crates(self.root, self.name):
-            for folder, _, names in os.walk(os.path.join(self.root, "crates", crate)):
-                places += [folder] + [os.path.join(folder, name) for name in names]
+            for part in PARTS:
+                for folder, _, names in os.walk(os.path.join(self.root, "crates", crate, part)):
+                    places += [folder] + [os.path.join(folder, name) for name in names]
         return sorted(places)
 
     def is_old(self):
@@ -91,48 +100,64 @@ class Program:
 
     def is_untouched(self):
         """Was it built here, by this toolchain, from just these files?"""
+        return self.is_as_in(self.record) and os.path.exists(self.binary)
+
+    def is_as_in(self, note):
+        """Are the toolchain and the sources as that note has them?"""
         try:
-            with open(self.record, encoding="utf-8", errors="surrogateescape") as file:
-                return file.read() == self.seen() and os.path.exists(self.binary)
+            with open(note, encoding="utf-8", errors="surrogateescape") as file:
+                return file.read() == self.seen()
         except OSError:
             return False
+
+    @staticmethod
+    def write(note, seen):
+        with open(note, "w", encoding="utf-8", errors="surrogateescape") as file:
+            file.write(seen)
 
     def build(self):
         """Calls rt, which knows by content what has changed, and tells how far it is."""
         seen = self.seen()  # before rt reads them: what is touched meanwhile differs from it
-        stamp = os.path.join(self.target, "stamp", self.name)
-        if not os.path.exists(self.binary) and os.path.exists(stamp):
-            os.unlink(stamp)
         if self.is_old():
             files.say(f"{self.who}: building what is missing or has changed; from nothing this takes minutes")
         crates = needed_crates(self.root, self.name)
-        said, done = [], 0
-        with subprocess.Popen([toolchain_command(), "check", self.name], cwd=self.root, stdin=subprocess.DEVNULL,
+        said, proving, since = [], None, 0
+        # It runs the program too, here on empty input.
+        with subprocess.Popen([toolchain_command(), "run"], cwd=self.crate, stdin=subprocess.DEVNULL,
                               stdout=subprocess.PIPE, stderr=subprocess.STDOUT) as process:
             for raw in process.stdout:
                 said.append(raw.decode("utf-8", "replace").rstrip("\n"))
-                proved = SAID.match(said[-1])
-                if proved and proved.group(1) in crates:
-                    done += 1
-                    if "unchanged" not in proved.group(2):
-                        files.say(f"{self.who}: {done} of {len(crates)}: {proved.group(1)} proved ({proved.group(2)})")
+                begun = BEGUN.match(said[-1])
+                if begun and begun.group(1) in crates:
+                    proving, since = begun.group(1), time.monotonic()
+                elif proving and said[-1].startswith("logic=proved "):
+                    took = round(time.monotonic() - since)
+                    files.say(f"{self.who}: {crates.index(proving) + 1} of {len(crates)}: {proving} proved ({took} s)")
+                    said, proving = [], None
         if process.returncode or not os.path.exists(self.binary):
             raise Trouble("\n".join(said + [f"{self.who}: the program was not built"]))
         os.utime(self.binary)
-        with open(self.record, "w", encoding="utf-8", errors="surrogateescape") as file:
-            file.write(seen)
+        self.write(self.record, seen)
+
+    # ---- The gate: rt ci proves and builds the programs too, and leaves them where rt run does ----
+
+    def before_gate(self):
+        os.makedirs(self.target, exist_ok=True)
+        self.write(self.begun, self.seen())
+
+    def after_gate(self):
+        """The gate has passed: it built the program from what was there before, if that is still there."""
+        if self.is_as_in(self.begun) and os.path.exists(self.binary):
+            os.replace(self.begun, self.record)
 
     # ---- Running ----
 
     def command(self):
-        """The program is for x86-64 and is run with the toolchain's loader and C library; elsewhere under its emulator."""
-        machine = platform.machine()
-        tools = os.path.join(toolchain_home(), "on", machine, "toolchain")
-        words = [os.path.join(tools, "lib", "ld-linux-x86-64.so.2"), "--library-path", os.path.join(tools, "lib"), self.binary]
-        return words if machine in ("x86_64", "amd64") else [os.path.join(tools, "bin", "qemu-x86_64")] + words
+        """The words with which the program is run."""
+        return [self.binary]
 
     def answer(self, data):
-        """What it prints for a file."""
+        """What it prints for a file; of a read error or a failed write it says so itself, on standard error."""
         try:
             ended = subprocess.run(self.command(), input=data, stdout=subprocess.PIPE, check=False)
         except OSError as error:
@@ -155,5 +180,10 @@ def toolchain_home():
 
 
 if __name__ == "__main__":
-    # The words with which the program itself is run, for tests that feed it directly.
-    print("\n".join(Program(*sys.argv[1:]).command()))
+    # NAME: the words with which the program itself is run, for tests that feed it directly. --before NAME.. and --after NAME..:
+    # for ./test, right before the gate and once it has passed, so that no program is proved a second time.
+    if sys.argv[1:2] in (["--before"], ["--after"]):
+        for each in sys.argv[2:]:
+            Program(each).before_gate() if sys.argv[1] == "--before" else Program(each).after_gate()
+    else:
+        print("\n".join(Program(*sys.argv[1:]).command()))
