@@ -114,10 +114,10 @@ extern "C" {
 #endif
 
 /* The version: a minor one adds calls and numbers, a major one changes what a call means (CHANGELOG.md). */
-#define SANDGUSSET_VERSION "3.0.1"
+#define SANDGUSSET_VERSION "3.0.2"
 #define SANDGUSSET_VERSION_MAJOR 3
 #define SANDGUSSET_VERSION_MINOR 0
-#define SANDGUSSET_VERSION_PATCH 1
+#define SANDGUSSET_VERSION_PATCH 2
 
 /* Values of the status field. */
 #define SANDGUSSET_DONE 0           /* strict, in order, steady, replayed, written or played */
