@@ -62,7 +62,7 @@ fn meant(kind: u8, number: u32) -> Asked {
 // The next move; what is cut off or of no kind ends the play, as the end of input does.
 fn next(rt: &impl Input) -> io::Result<Asked> {
     let mut bytes = [0u8; 5];
-    let n = saying::read_full(rt, &mut bytes)?;
+    let n = saying::read_full(&mut rt.reader(), &mut bytes)?;
     if n < 5 {
         return Ok(Asked::End);
     }
@@ -117,7 +117,7 @@ fn fill(rt: &impl Input, file: &mut [u8], n: usize) -> io::Result<usize> {
     if file.len() < n {
         return Ok(0);
     }
-    saying::read_full(rt, &mut file[..n])
+    saying::read_full(&mut rt.reader(), &mut file[..n])
 }
 
 fn read(file: &[u8], n: usize) -> Reading {
@@ -129,7 +129,7 @@ fn read(file: &[u8], n: usize) -> Reading {
 
 fn main(rt: HostRuntime) -> io::Result<()> {
     let mut head = [0u8; 2];
-    saying::read_full(&rt, &mut head)?;
+    saying::read_full(&mut rt.reader(), &mut head)?;
     let mut file = [0u8; 65536];
     let n = fill(&rt, &mut file, wire::two(&head, 0) as usize)?;
     let a = read(&file, n);

@@ -1,7 +1,8 @@
 #![tactic(auto)]
-// What the programs read and print: a table file, numbers, refusals, verdicts. No contract can say what std reads or writes: that is run, not
-// proved. Every call is safe, ends and is lent nothing that it could change; a place that a list lacks is printed as 0.
-ghost use Rattle.std.specs.Prelude.{◌≡◌, ◌≤◌, length, IfOk, get_or};
+// What the programs read and print: a table file, numbers, refusals, verdicts. No contract can say what standard input gives and standard output takes:
+// that is run, not proved. Every call is safe and ends, and read_full alone is lent what it could change; a place that a list lacks is printed as 0.
+ghost use Rattle.std.specs.Prelude.{◌≡◌, ◌≤◌, ◌<◌, length, take, IfOk, get_or};
+ghost use Rattle.std.specs.Io.KnownBytes.{Consumes, IsAtEnd};
 
 use std::io;
 use std::io::Read;
@@ -22,11 +23,13 @@ pub fn number(rt: &impl Print, n: usize) -> io::Result<()>
     rt.print(n)
 }
 
-// Reads standard input until buf is full or the input ends, and returns how many bytes it put at the start of buf.
-pub fn read_full(rt: &impl Input, buf: &mut [u8]) -> io::Result<usize>
-    ensures { IfOk result (λ n. n ≤ length buf.new) }
+// Reads until buf is full or the input ends, and returns how many bytes it put at the start of buf: what the input gave, and where buf is not full
+// all that it had. A failed read is an error, after which buf holds what came before it, and bytes of no meaning.
+pub fn read_full<R: Read>(input: &mut R, buf: &mut [u8]) -> io::Result<usize>
+    ensures room { IfOk result (λ n. n ≤ length buf.new) }
+    ensures bytes { IfOk result (λ n. Consumes (R.remaining input.old) (R.remaining input.new) (take n buf.new)) }
+    ensures end { IfOk result (λ n. n < length buf.new → IsAtEnd (R.remaining input.new)) }
 {
-    let mut input = rt.reader();
     let mut done = 0;
     while done < buf.len() {
         let n = input.read(&mut buf[done..])?;
@@ -96,12 +99,12 @@ pub fn refusal(rt: &impl Print, r: Refusal) -> io::Result<()>
     number(rt, table::place(r))
 }
 
-// The table file on standard input; what is none is said. Later bytes can't change the answer.
+// The table file on standard input; what is none is said. Later bytes can't change the answer. A read error ends the program.
 pub fn read_input(rt: &(impl Input + Print)) -> io::Result<Reading>
     ensures { Unit {0} }
 {
     let mut file = [0u8; 8192];
-    let n = read_full(rt, &mut file)?;
+    let n = read_full(&mut rt.reader(), &mut file)?;
     let a = table_file::read_table(&file[..n]);
     let read = a.answer;
     if let Checked::Refused(r) = read {

@@ -91,7 +91,7 @@ pub fn run(rt: &(impl Input + Print)) -> io::Result<()>
     ensures { Unit {0} }
 {
     let mut all = [0u8; 40960];
-    let n = saying::read_full(rt, &mut all)?;
+    let n = saying::read_full(&mut rt.reader(), &mut all)?;
     let mut file = [0u8; 4700];
     let mut list = [0u32; 4096];
     cases(rt, &all[..n], &mut file, &mut list)

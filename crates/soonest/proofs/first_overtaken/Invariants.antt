@@ -1,4 +1,3 @@
--- What is not named follows from the arithmetic around it.
 use Prim.Native.Nat.{ℕ, ◌-◌, ◌≤◌, ◌<◌}
 use Rattle.criterion.specs.declared.Goal.TheVariants.{Overtakes}
 use Rattle.table.specs.Rows.{rows}

@@ -1,4 +1,3 @@
--- What is not named follows from the arithmetic around it.
 use Prim.Native.Nat.{◌-◌, ◌≤◌}
 use Rattle.table.specs.Rows.{rows}
 use Rattle.soonest.proofs.SoonestLaws.{Round}

@@ -1,4 +1,3 @@
--- What is not named follows from the arithmetic around it.
 use Rattle.model.specs.Lists.{total}
 use Rattle.table.specs.Rows.{rows}
 use Rattle.soonest.specs.Soonest.{Real}

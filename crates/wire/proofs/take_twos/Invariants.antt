@@ -1,4 +1,3 @@
--- What is not named follows from the arithmetic around it.
 use Prim.Native.Nat.{◌-◌}
 use Rattle.wire.proofs.Bytes.{Taking}
 use Rattle.wire.proofs.take_twos.Given as goal

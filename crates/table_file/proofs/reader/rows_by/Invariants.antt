@@ -1,4 +1,3 @@
--- What is not named follows from the arithmetic around it.
 use mathlib.Core.Path.{◌≡◌}
 use Prim.Native.Nat.{◌-◌}
 use lib.ListN.{length}

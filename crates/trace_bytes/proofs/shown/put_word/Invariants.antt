@@ -1,4 +1,3 @@
--- What is not named follows from the arithmetic around it.
 use Rattle.std.proofs.Common.{◌-◌, length}
 use Rattle.trace_bytes.proofs.ShownLaws.{Putting}
 use Rattle.trace_bytes.proofs.shown.put_word.Given as goal

@@ -1,4 +1,3 @@
--- What is not named follows from the arithmetic around it.
 use lib.ListN.{length}
 use Rattle.table.specs.Rows.{named}
 use Rattle.verdict.specs.Times.{number_of}
