@@ -15,6 +15,7 @@ if [ "${1-}" = --kit ]; then
     need pkg-config pkgconf
     export PKG_CONFIG_PATH=$what/lib/pkgconfig LD_LIBRARY_PATH=$what/lib
     read -ra words < <(pkg-config --cflags --libs sandgusset)
+    runner=$shared_runner
 fi
 for program in host night bench; do
     "$cc" -std=c99 -O2 -Wall -Wextra -pedantic -Werror "$root/examples/$program.c" "${words[@]}" -o "$program" || exit 1
@@ -22,7 +23,7 @@ done
 
 # run PROGRAM FILE...: what it printed is in out and err, its status in $status.
 run() {
-    "./$1" "${@:2}" >out 2>err </dev/null
+    $runner "./$1" "${@:2}" >out 2>err </dev/null
     status=$?
 }
 

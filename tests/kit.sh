@@ -3,7 +3,9 @@
 #
 #   tests/kit.sh
 #
-# What is missing is built first. The last line is 'N passed, 0 failed', and how many were skipped if any were.
+# What is missing is built first. On a machine that is not x86-64, Debian's Python for x86-64 is fetched into that folder; if
+# it can't be had, the host in Python is run on the plain C version of the library alone, and the rest of it is skipped.
+# The last line is 'N passed, 0 failed', and how many were skipped if any were.
 . "$(dirname "$0")/../tools/help.sh"
 . "$(dirname "$0")/common.sh"
 . "$root/tests/x86.sh"
@@ -56,7 +58,7 @@ passes() {
 # ---- Installing ----
 
 install=(env "HOME=$work/home" "TMPDIR=$work/spare" "$root/tools/install")
-for script in tools/install tools/sandgusset-judge tests/kit.sh tests/host.sh tests/run bench/run; do
+for script in tools/install tools/sandgusset-judge tests/kit.sh tests/host.sh tests/run tests/x86-python bench/run; do
     run "$root/$script" --help
     [ "$status" -eq 0 ] && [ ! -s err ] && grep -q "^  .*$(basename "$script")" out
     verdict "$script --help" $?
@@ -171,7 +173,7 @@ for standard in c99 c11 gnu17; do
     passes "the header as $standard, all warnings" \
         "$cc" "-std=$standard" "${strict[@]}" -Ikit/include -static "$root/tests/header.c" -o header
 done
-passes 'what the header works out' ./header
+passes 'what the header works out' $runner ./header
 cxx=${CXX:-c++}
 printf '#include <sandgusset.h>\nint main() { sandgusset_transition t; return !sandgusset_text(1) + %s; }\n' \
     'sandgusset_get_transition(0, 0, 0, &t)' >header.cc
@@ -207,10 +209,22 @@ python_host() {
     answered "$name: refused" 1 'refused 1 at 26'
 }
 head -c 40 "$root/examples/source-trace.bin" >cut
-python_host 'the host in Python' "$kit/lib/libsandgusset.so" python3
-# The plain C version has the same calls.
-"$cc" -std=c99 -O2 -shared -fPIC "-I$root/include" "$root/bench/sandgusset.c" -o plain.so
-python_host 'the host in Python, on the plain C version' ./plain.so python3
+python=$(python3 -c 'import sys; print(sys.executable)')
+if [ -n "$runner" ]; then
+    "$root/tests/x86-python" "$work/python" >fetched 2>&1 && python=$work/python/python3 || python=
+fi
+if [ -n "$python" ]; then
+    python_host 'the host in Python' "$kit/lib/libsandgusset.so" "$python"
+else
+    tail -n 1 fetched
+    skip 'the host in Python on the proved library' "no Python for x86-64"
+fi
+# The plain C version has the same calls, and this machine's own compiler: so the script itself runs everywhere.
+if "${CC:-cc}" -std=c99 -O2 -shared -fPIC "-I$root/include" "$root/bench/sandgusset.c" -o plain.so 2>/dev/null; then
+    python_host 'the host in Python, on the plain C version' ./plain.so python3
+else
+    skip 'the host in Python on the plain C version' 'no C compiler for this machine'
+fi
 run python3 "$root/examples/host.py" cut "$work/none.so"
 failed_with 'the host in Python without its library' 2 'none.so'
 run python3 "$root/examples/host.py" --help
@@ -263,49 +277,83 @@ failed_with 'sandgusset-judge: an unknown option' 3 'there is no such option'
 cp -a kit moved && ln -s ../moved/bin/sandgusset-judge home/linked
 run home/linked "$root/examples/touching.bin"
 answered 'sandgusset-judge: moved, and called by a link' 0 strict
-run "$judge" </proc/self/mem
-[ "$status" -eq 3 ] && [ ! -s out ] && grep -q '^Error: ' err && grep -qx 'sandgusset-judge: the program ended with status 1' err
-verdict 'sandgusset-judge: a read error' $?
-run "$judge" --order </proc/self/mem
-[ "$status" -eq 3 ] && [ ! -s out ] && grep -q '^Error: ' err && grep -qx 'sandgusset-judge: the program ended with status 1' err
-verdict 'sandgusset-judge --order: a read error' $?
-# Which way of running is taken: stand-ins for the program and the kit's loader.
+# What the program can't read is trouble: it says why, and the script its status.
+for option in '' --order; do
+    # shellcheck disable=SC2086
+    run "$judge" $option </proc/self/mem
+    [ "$status" -eq 3 ] && [ ! -s out ] && [ "$(wc -l <err)" -eq 2 ] && grep -q '^Error: ' err &&
+        grep -qx 'sandgusset-judge: the program ended with status 1' err
+    verdict "sandgusset-judge${option:+ $option}: a read error" $?
+done
+# Which way of running is taken on x86-64, whatever this machine is: stand-ins for uname, the program and the kit's loader.
 # stand_in FILE LINE: a script that prints the line, but for empty input what the program prints then.
 stand_in() {
     mkdir -p "${1%/*}"
     printf '#!/bin/sh\n[ "$(wc -c)" -gt 0 ] || exec echo refused 1 at 0\necho %s\n' "$2" >"$1"
     chmod +x "$1"
 }
-with_kit() {
-    run env "RATTLE_HOME=$work/$1" home/linked "$root/examples/touching.bin"
+on_x86() {
+    run env "PATH=$work/machine:$PATH" "RATTLE_HOME=$work/$1" home/linked "$root/examples/touching.bin"
 }
+mkdir machine && printf '#!/bin/sh\necho x86_64\n' >machine/uname && chmod +x machine/uname
 stand_in moved/libexec/sandgusset/judge strict
 stand_in rattle/toolchain/lib/ld-linux-x86-64.so.2 'turning 1 2'
-with_kit rattle
+on_x86 rattle
 answered "sandgusset-judge: the system's loader is taken first" 0 strict
 printf '#!/bin/sh\nexit 1\n' >moved/libexec/sandgusset/judge
-with_kit rattle
+on_x86 rattle
 answered "sandgusset-judge: the kit's loader is taken if the system's does not do" 1 'turning 1 2'
-with_kit none
+on_x86 none
 failed_with 'sandgusset-judge: no loader does' 3 "can't run the program"
+# And on another machine: a stand-in for the emulator too, which has its word for the kit's loader and one for Debian's library.
+elsewhere() {
+    run env "PATH=$work/other:$PATH" "RATTLE_HOME=$work/$1" home/linked "$root/examples/touching.bin"
+}
+mkdir other && printf '#!/bin/sh\necho aarch64\n' >other/uname && chmod +x other/uname
+cat >other/qemu-x86_64 <<'EMULATOR'
+#!/bin/sh
+case $* in
+-L\ /usr/x86_64-linux-gnu\ */libexec/sandgusset/judge) says='turning 1 2' ;;
+*/lib/ld-linux-x86-64.so.2\ --library-path\ */lib\ */libexec/sandgusset/judge) [ -x "$1" ] && says=strict || exit 1 ;;
+esac
+[ "$(wc -c)" -gt 0 ] || exec echo refused 1 at 0
+echo "$says"
+EMULATOR
+chmod +x other/qemu-x86_64
+elsewhere rattle
+answered "sandgusset-judge: on another machine the emulator runs the kit's loader" 0 strict
+elsewhere none
+answered "sandgusset-judge: on another machine the emulator runs it with Debian's C library if there is no kit" 1 'turning 1 2'
+printf '#!/bin/sh\nexit 127\n' >other/qemu-x86_64
+elsewhere rattle
+failed_with 'sandgusset-judge: on another machine, without the emulator' 3 'an emulator is needed'
 rm moved/libexec/sandgusset/judge
 run home/linked "$root/examples/touching.bin"
 failed_with 'sandgusset-judge: without its program' 3 'the program is missing'
 run home/linked --order "$root/examples/touching.bin"
 answered 'sandgusset-judge --order: has a program of its own' 0 'in order'
 run env -i PATH=/usr/bin:/bin "$judge" "$root/examples/touching.bin"
-answered 'sandgusset-judge: without the toolchain' 0 strict
+if [ -z "$runner" ] || PATH=/usr/bin:/bin command -v qemu-x86_64 >/dev/null; then
+    answered 'sandgusset-judge: without the toolchain' 0 strict
+else
+    failed_with 'sandgusset-judge: without the toolchain or an emulator' 3 'an emulator is needed'
+fi
 
 # ---- What the README says ----
 
-# The commands of its section, in a folder that looks like the checkout, with the C compiler of these tests.
+# The commands of its section, in a folder that looks like the checkout, with this machine's C compiler for x86-64.
 mkdir desk bin
 ln -s "$root/tools" "$root/examples" desk/
 printf '#!/bin/sh\nexec %s "$@"\n' "$(command -v "$cc")" >bin/cc
 chmod +x bin/cc
-sed -n '/^## Link the library/,/^## What/s/^    //p' "$root/README.md" >commands
+sed -n '/^## Link the library/,/^## What/s/^    //p' "$root/README.md" | sed "s|^\./|$shared_runner ./|; s|^python3|${python:-python3}|" >commands
 cat "$root"/tests/host/source-trace{,.words,.bench}.out >wanted
-printf '%s\n' "${python_lines[@]}" strict >>wanted
+if [ -n "$python" ]; then
+    printf '%s\n' "${python_lines[@]}" >>wanted
+else
+    sed -i '/^python3/d' commands
+fi
+echo strict >>wanted
 run env -u PKG_CONFIG_PATH -u LD_LIBRARY_PATH -C desk HOME="$work/home" PATH="$work/bin:$PATH" bash -e ../commands
 [ "$status" -eq 0 ] && [ ! -s err ] && grep -q '^installed ' out && sed '/^installed /d' out | cmp -s - wanted
 verdict "the README's commands" $?

@@ -15,7 +15,7 @@ wide=$root/examples/download-wide
 # The program is built now, so that later calls have nothing to say on standard error.
 "$play" "$wide.table" </dev/null || exit 1
 PYTHONPATH=$root/tools python3 -B -m desk.program play | mapfile -t program
-[ -x "${program[0]-}" ] || exit 1
+[ "${#program[@]}" -gt 1 ] || exit 1
 
 # run ARGUMENT...: calls the script on standard input; its output is in out and err, its status in $status.
 run() {

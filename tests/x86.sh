@@ -1,8 +1,19 @@
-# The C compiler with which programs are linked with the library, which is for x86-64 alone: sourced, sets cc.
-cc=${CC:-cc}
+# What builds and runs x86-64 programs here: sourced, sets cc, runner and shared_runner, which runs programs that are
+# linked with shared objects. The library's archive is for x86-64; on another machine Debian's cross compiler links it
+# and Debian's emulator runs it.
 case $(uname -m) in
-x86_64 | amd64) ;;
-*) echo 'the library is for x86-64, and so are its tests' >&2; exit 2 ;;
+x86_64 | amd64)
+    cc=${CC:-cc}
+    packages='gcc libc6-dev'
+    runner=
+    shared_runner=
+    ;;
+*)
+    cc=x86_64-linux-gnu-gcc
+    packages='gcc-x86-64-linux-gnu libc6-dev-amd64-cross'
+    runner=qemu-x86_64
+    shared_runner="$runner -L /usr/x86_64-linux-gnu"
+    ;;
 esac
 
 # need COMMAND PACKAGE...: ends if the command is missing and Debian's packages may not be installed or don't bring it.
@@ -20,4 +31,6 @@ need() {
     command -v "$command" >/dev/null || { echo "$command is needed here: install Debian's $*" >&2; exit 2; }
 }
 
-need "$cc" gcc libc6-dev
+# shellcheck disable=SC2086
+need "$cc" $packages
+[ -z "$runner" ] || need "$runner" qemu-user

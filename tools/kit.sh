@@ -1,3 +1,3 @@
-# Where the Rattle kit keeps its linker and C library: sourced, sets toolchain.
+# Where the Rattle kit keeps its linker and C library, which are for x86-64: sourced, sets toolchain.
 kit=${RATTLE_HOME:-$(dirname "$(dirname "$(readlink -f "$(command -v rt)")")")}
 toolchain=$kit/toolchain
