@@ -21,7 +21,7 @@ table=$root/tools/table
 # The programs themselves, as ./judge runs them.
 PYTHONPATH=$root/tools python3 -B -m desk.program | mapfile -t program
 PYTHONPATH=$root/tools python3 -B -m desk.program order | mapfile -t order_program
-[ -x "${program[0]-}" ] && [ -x "${order_program[0]-}" ] || exit 1
+[ "${#program[@]}" -gt 1 ] && [ "${#order_program[@]}" -gt 1 ] || exit 1
 
 # run ARGUMENT...: calls the script on standard input; its output is in out and err, its status in $status.
 options=()  # of every call
@@ -375,7 +375,7 @@ in_pieces() {
     shift 2
     pieces "$@" | timeout 120 "$judge" 2>/dev/null | head -n 1 | grep -qx "$line"
     verdict "in pieces: $name" $?
-    pieces "$@" | timeout 120 "${program[@]}" | sed -n 1p | grep -qx "$line"
+    pieces "$@" | timeout 120 "${program[@]}" 2>/dev/null | head -n 1 | grep -qx "$line"
     verdict "in pieces, the program itself: $name" $?
 }
 for file in source full; do
@@ -397,19 +397,23 @@ pieces "$root/examples/source-trace.table" 1 2 3 400 | answers 'in pieces: a tex
 
 # ---- What cannot be read or written ends the program, and is said ----
 
-# ended NAME: the program itself ended with status 1 and said so by one line on standard error, and printed nothing.
+# ended STATUS WORDS NAME: the program itself had status 1, and said so by one line with these words on standard error alone.
 ended() {
-    [ "$status" -eq 1 ] && [ ! -s out ] && [ "$(wc -l <err)" -eq 1 ] && grep -q '^Error: ' err
-    verdict "$1" $?
+    [ "$1" -eq 1 ] && [ ! -s out ] && [ "$(wc -l <err)" -eq 1 ] && grep -q "^Error: .*$2" err
+    verdict "$3" $?
 }
-for one in "${program[0]}" "${order_program[0]}"; do
-    "$one" <"$work" >out 2>err
-    status=$?
-    ended "a read error, the program itself: ${one##*/}"
-    "$one" <source.bin 2>err >/dev/full
-    status=$?
+for name in judge order; do
+    PYTHONPATH=$root/tools python3 -B -m desk.program "$name" | mapfile -t one
+    "${one[@]}" <"$work" >out 2>err
+    ended $? 'Is a directory' "a read error, the program itself: $name"
     : >out
-    ended "a failed write, the program itself: ${one##*/}"
+    "${one[@]}" <source.bin 2>err >/dev/full
+    ended $? 'No space left' "a failed write, the program itself: $name"
+    exec 9> >(exec true)  # a pipe whose reader is gone
+    wait $!
+    "${one[@]}" <source.bin 2>err >&9
+    ended $? 'Broken pipe' "a closed pipe, the program itself: $name"
+    exec 9>&-
 done
 
 # ---- Text or table file: text is UTF-8 without control characters, and its first word begins a line ----
@@ -561,7 +565,7 @@ checkout() {
 chmod 755 "$work"
 checkout sealed
 mkdir -p sealed/crates/judge/out
-cp "${program[0]}" sealed/crates/judge/out/judge
+cp "$root/crates/judge/out/judge" sealed/crates/judge/out/judge
 cp source.bin secret.bin
 chmod 000 secret.bin
 chmod -R a-w,a+rX sealed
@@ -655,7 +659,7 @@ rm -f asked
 # gate NAME: notes for the gate in that folder, before it or once it has passed.
 gate() { (cd fresh && RATTLE_HOME=$kit PATH=$work/stand-in:$PATH PYTHONPATH=tools python3 -B -m desk.program "$@"); }
 rm fresh/target/judge.built
-gate --before judge && cp "${program[0]}" fresh/crates/judge/out/judge && gate --after judge
+gate --before judge && cp "$root/crates/judge/out/judge" fresh/crates/judge/out/judge && gate --after judge
 with_rt source.bin
 not_asked 'the gate has built the program: the toolchain is not asked'
 rm fresh/target/judge.built
@@ -668,7 +672,7 @@ gate --before judge && gate --after judge
 with_rt source.bin
 asked 'a gate that built no program: it is asked'
 rm -f asked
-mkdir other && echo 'another toolchain' >other/KIT-ID
+mkdir other && ln -s "$kit/toolchain" other/toolchain && echo 'another toolchain' >other/KIT-ID
 kit=$work/other with_rt source.bin
 asked 'another toolchain: it is asked'
 rm -f asked
@@ -688,10 +692,13 @@ printf '#!/bin/sh\ncp /bin/true out/judge\n' >stand-in/rt
 with_rt source.bin
 [ "$status" -eq 3 ] && [ ! -s out ] && [ -s err ]
 verdict 'a program that does not answer' $?
-printf '#!/bin/sh\nprintf "#!/bin/sh\\necho strict; echo Error: no more >&2; exit 1" >out/judge\n' >stand-in/rt
-touch fresh/crates/judge/src/more
-with_rt source.bin
-trouble '^judge: the program ended with status 1' 'a program that ends with an error: its answer does not count'
+# A toolchain whose loader prints and then ends with an error, and an emulator that runs it, on a machine that wants one.
+mkdir -p ending/toolchain/lib && echo 'a toolchain that ends' >ending/KIT-ID
+printf '#!/bin/sh\necho strict\necho Error: no more >&2\nexit 1\n' >ending/toolchain/lib/ld-linux-x86-64.so.2
+printf '#!/bin/sh\nexec "$@"\n' >stand-in/qemu-x86_64
+chmod +x ending/toolchain/lib/ld-linux-x86-64.so.2 stand-in/qemu-x86_64
+kit=$work/ending with_rt source.bin
+trouble '^judge: the program ended with status 1$' 'a program that ends with an error: its answer does not count'
 grep -qx 'Error: no more' err
 verdict 'a program that ends with an error: why' $?
 

@@ -2,6 +2,7 @@
 
 import fcntl
 import os
+import platform
 import re
 import shutil
 import subprocess
@@ -153,8 +154,10 @@ class Program:
     # ---- Running ----
 
     def command(self):
-        """The words with which the program is run."""
-        return [self.binary]
+        """The program is for x86-64 and is run with the toolchain's loader and C library; elsewhere under Debian's emulator."""
+        tools = os.path.join(toolchain_home(), "toolchain", "lib")
+        words = [os.path.join(tools, "ld-linux-x86-64.so.2"), "--library-path", tools, self.binary]
+        return words if platform.machine() in ("x86_64", "amd64") else ["qemu-x86_64"] + words
 
     def answer(self, data):
         """What it prints for a file; of a read error or a failed write it says so itself, on standard error."""
@@ -182,8 +185,9 @@ def toolchain_home():
 if __name__ == "__main__":
     # NAME: the words with which the program itself is run, for tests that feed it directly. --before NAME.. and --after NAME..:
     # for ./test, right before the gate and once it has passed, so that no program is proved a second time.
-    if sys.argv[1:2] in (["--before"], ["--after"]):
+    gate = {"--before": Program.before_gate, "--after": Program.after_gate}.get((sys.argv[1:] or [""])[0])
+    if gate:
         for each in sys.argv[2:]:
-            Program(each).before_gate() if sys.argv[1] == "--before" else Program(each).after_gate()
+            gate(Program(each))
     else:
         print("\n".join(Program(*sys.argv[1:]).command()))
