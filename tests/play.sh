@@ -227,6 +227,34 @@ run --help
 [ "$status" -eq 0 ] && grep -q 'input LETTER' out && [ ! -s err ]
 verdict 'the help' $?
 
+# A program that ends: a checkout with a stand-in for rt, and for the toolchain one whose loader answers the table and then ends,
+# with an error or without; an emulator that runs it, on a machine that wants one.
+mkdir -p ends/crates/play/src ends/tools stand-in ending/toolchain/lib
+cp "$play" ends/play
+cp -r "$root/tools/desk" ends/tools/
+echo 'play:' >ends/crates.txt
+echo 'a toolchain that ends' >ending/KIT-ID
+printf '#!/bin/sh\nmkdir -p out && touch out/play\n' >stand-in/rt
+printf '#!/bin/sh\nexec "$@"\n' >stand-in/qemu-x86_64
+loader=ending/toolchain/lib/ld-linux-x86-64.so.2
+printf '#!/bin/sh\nhead -c 1 >/dev/null\necho done 0 0 state 0 0 0\n[ "$ENDS" -eq 0 ] || echo Error: no more >&2\nexit "$ENDS"\n' >$loader
+chmod +x stand-in/* $loader
+# ends STATUS: plays there what is on standard input.
+ends() {
+    ENDS=$1 RATTLE_HOME=$work/ending PATH=$work/stand-in:$PATH ends/play "$wide.table" >out 2>err
+    status=$?
+}
+moves 'time 1' 'time 2' | ends 1
+nothing 3 '^play: the program ended with status 1$' 'a program that ends with an error'
+told '^Error: no more$' 'a program that ends with an error: why'
+ends 1 </dev/null
+nothing 3 '^play: the program ended with status 1$' 'a program that ends with an error after the last move'
+moves 'time 1' | ends 0
+nothing 3 '^play: the program has ended: it plays at most a million moves$' 'a program that ends'
+ends 0 </dev/null
+[ "$status" -eq 0 ] && [ ! -s out ]
+verdict 'a program that ends after the last move' $?
+
 # ---- The program itself: what is cut off, or of no kind, ends it ----
 
 # direct NAME LINE...: the program prints this for the bytes on standard input.
@@ -246,5 +274,19 @@ loop='0600 0100 0100 0000 1000 0200 0000 0100 0200 0000 0100 0500 0100 0200 0300
 bytes 1e00 "$loop" 0001010000 0101000000 0300000000 0001000000 | direct 'program: a move of no kind' \
     'done 0 0 state 0 0 0' 'done 0 0 state 0 257 0' 'done 0 0 state 0 0 1 waits 1 2 256'
 bytes 1e00 "$loop" 00010100 | direct 'program: a move that is cut off' 'done 0 0 state 0 0 0'
+# What can't be read or written ends it too, with status 1 and a line that says why.
+"${program[@]}" <. >out 2>err
+status=$?
+nothing 1 '^Error: .*Is a directory' 'program: a read error'
+: >out
+bytes 1e00 "$loop" | "${program[@]}" 2>err >/dev/full
+status=${PIPESTATUS[1]}
+nothing 1 '^Error: .*No space left' 'program: a failed write'
+exec 9> >(exec true)  # a pipe whose reader is gone
+wait $!
+bytes 1e00 "$loop" | "${program[@]}" 2>err >&9
+status=${PIPESTATUS[1]}
+nothing 1 '^Error: .*Broken pipe' 'program: a closed pipe'
+exec 9>&-
 
 finish

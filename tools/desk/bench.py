@@ -29,13 +29,19 @@ class Bench:
     def __enter__(self):
         return self
 
-    def __exit__(self, *_):
+    def __exit__(self, kind, *_):
+        status = self.ended()
+        if status and kind is None:
+            raise Trouble(f"the program ended with status {status}")
+
+    def ended(self):
+        """Has the program end, if it has not; its status."""
         self.process.stdout.close()
         try:
             self.process.stdin.close()
         except OSError:
             pass
-        self.process.wait()
+        return self.process.wait()
 
     def ask(self, data):
         """Hands over bytes and understands the line that answers them."""
@@ -46,7 +52,9 @@ class Bench:
         except OSError:
             raw = b""
         if not raw.endswith(b"\n"):
-            raise Trouble("the program has ended: it plays at most a million moves")
+            status = self.ended()
+            raise Trouble(f"the program ended with status {status}" if status else
+                          "the program has ended: it plays at most a million moves")
         try:
             self.understand(raw.decode("ascii"))
         except (ValueError, IndexError):
