@@ -20,7 +20,7 @@ table file. What is wrong with a text is told on standard error, by line. The pr
 missing or its sources have changed; standard error says how far it is.
 
 Status: 0 strict, or in order; 1 split or turning, or overtaken; 2 refused: no table; 3 trouble: a wrong call, no such
-file, a read error, not built.
+file, a read error, a failed write, not built.
 """
 
 import os

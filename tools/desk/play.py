@@ -20,7 +20,7 @@ million moves are played in one call. The program is proved and built first if i
     -h, --help       this text
 
 Status: 0 every line was played; 1 some were refused or are no moves; 2 refused: no table, or one that is split;
-3 trouble: a wrong call, no such file, a read error, not built.
+3 trouble: a wrong call, no such file, a read error, a failed write, not built.
 """
 
 import os
