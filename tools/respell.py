@@ -5,7 +5,7 @@ Functions and constructors in camel case, constructors and record fields with a 
 dash joins two names. It goes over specs/, proofs/, src/ (clauses), must-fail/ and docs/, prints what it renamed, and says where two
 names of one file would fall together ('falls together': harmless where one of them is a step or a module of a proof file).
 
-usage: respell.py [--dry]
+usage: respell.py [--dry | --help]
 """
 import collections
 import glob
@@ -68,4 +68,7 @@ def main(dry):
             open(p, "w", encoding="utf-8").write(new)
 
 
-main("--dry" in sys.argv[1:])
+if {"-h", "--help"} & {*sys.argv[1:]}:
+    print(__doc__.strip())
+else:
+    main("--dry" in sys.argv[1:])
