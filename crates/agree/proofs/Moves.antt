@@ -8,7 +8,7 @@ use lib.Seq.{take_at, get_or-append_seam, drop-append-add, split_at}
 use Rattle.model.specs.Lists.{In, All}
 use Rattle.model.specs.Word.{Fits}
 use Rattle.model.specs.Table.{Machine, Transition, Valid, at}
-use Rattle.model.proofs.Lists.{all_in, in_image, get_d_map, take-map, drop-map}
+use Rattle.model.proofs.Lists.{all_in, in_image, get_or-map, take-map, drop-map}
 use Rattle.records.specs.declared.Pending.{Pending}
 use Rattle.records.specs.Record.{blank}
 use Rattle.player.specs.declared.Config.{Config}
@@ -45,7 +45,7 @@ module _ (ws : List Wait) (bs : List Pending) (b : Pending) (cs : List Pending) 
   front = sym (take-map coded n ws) ∙ ap (take n) e ∙ take_at bs (b ∷ cs) n refl
 
   it : coded x ≡ b
-  it = sym (get_d_map coded no-wait blank ws n inside) ∙ ap (λ (r : List Pending). get_or r n blank) e ∙ get_or-append_seam bs b cs blank
+  it = sym (get_or-map coded no-wait blank ws n inside) ∙ ap (λ (r : List Pending). get_or r n blank) e ∙ get_or-append_seam bs b cs blank
 
   back : map coded ys ≡ cs
   back =

@@ -1,6 +1,6 @@
 -- Chains of the player's accepted calls, and what they tell: the inputs, the transitions taken, the outputs issued.
 use Rattle.std.specs.Prelude.{◌≡◌, List, [], ◌∷◌, ◌++◌, ℕ, ◌+◌, ◌<◌, ◌^◌, length}
-use Rattle.std.proofs.Common.{arith}
+use Rattle.std.proofs.Common.{lit≤}
 use Rattle.model.specs.Answers.{fields}
 use Rattle.model.specs.Table.{Machine}
 use Rattle.model.specs.Word.{Word, Symbol}
@@ -70,7 +70,7 @@ symbols_of [] = []
 symbols_of (x ∷ h) = spells x.move (since_of h) (symbols_of h)
 
 abbrev pub word_of : List Call → Word
-word_of h = record { q = 256; fine = omega arith; symbols = symbols_of h }
+word_of h = record { q = 256; fine = lit≤ tt; symbols = symbols_of h }
 
 -- "The outputs issued .., each with its step, letter and the time since the start", as the answers tell
 abbrev pub issues : Move → Response → List Response → List Response

@@ -1,4 +1,6 @@
 -- The words of a night, and that each is a replay.
+use mir.Syntax.{w64}
+use mir.Val.{Fits}
 use mathlib.Core.Path.{◌≡◌, refl, ◌∙◌}
 use mathlib.Core.Logic.{inl, inr}
 use mathlib.Core.List.{List, [], ◌∷◌, ◌++◌}
@@ -52,6 +54,11 @@ module _ {c trace starts stamps o₀ d₀ m₀ o d m : List ℕ} {at w : ℕ} (k
     -- the places of the word at hand
     pub lent_fits : (at + length trace ≤ length stamps) × (at + length trace ≤ length o) × (at + length trace ≤ length d)
     lent_fits = let room = pre.1 in omega (arith, next_fits w (length starts) (length trace) h)
+
+    -- its place among the marks, and the next word
+    pub mark-fits : length starts * 4 < 2 ^ 63
+        → Fits w64 (w * 2) × (w < length m) × Fits w64 (w + 1) × (length starts - (w + 1) < length starts - w)
+    mark-fits f = let room = pre.1 in (record { fits = omega arith }, omega arith, record { fits = omega arith }, omega arith)
 
     -- they are lent from `at` to `at + n`
     abbrev lent : List ℕ → List ℕ

@@ -1,10 +1,12 @@
 -- The lowest open transition, the split of a checked table, and the start.
-use mathlib.Core.Path.{◌≡◌, ap, ◌∙◌}
+use mathlib.Core.Path.{◌≡◌, refl, ap, ◌∙◌}
+use mathlib.Core.Bool.{Bool, true, false}
 use mathlib.Core.List.{List}
 use Prim.Native.Nat.{ℕ, ◌+◌, ◌≤◌, ◌<◌}
 use native.Mathlib.Omega.{arith}
 use borrow.Author.Count.{below_more}
-use Rattle.model.specs.Table.{Valid, at}
+use Rattle.model.specs.Answers.{Tells}
+use Rattle.model.specs.Table.{Transition, Valid, at}
 use Rattle.model.specs.Verdict.{Splits}
 use Rattle.model.proofs.Split.{split-law}
 use Rattle.table.specs.declared.Row.{Row}
@@ -17,7 +19,20 @@ use Rattle.reach.specs.Reach.{Admits, Reach}
 use Rattle.split_pair.specs.declared.Pair.TheVariants.{At, Nothing}
 use Rattle.split_pair.specs.Split.{SplitOutcome}
 use Rattle.split_pair.proofs.SplitLaws.{split-found}
-use Rattle.player.specs.Decide.{Opens, FirstOpen}
+use Rattle.replay.specs.declared.Guard.{Guard}
+use Rattle.replay.specs.declared.Guard.TheVariants.{Inside}
+use Rattle.replay.specs.Guards.{Meets}
+use Rattle.replay.proofs.GuardLaws.{guard-only}
+use Rattle.player.specs.declared.Config.{Config}
+use Rattle.player.specs.Decide.{Opens, FirstOpen, Fits15}
+
+-- a guard that is met inside opens, and no other
+pub opens-inside : {t : Transition} {state letter timer : ℕ} {g : Guard} → t.from ≡ state → t.input ≡ letter → g ≡ Inside → Meets g 256 t timer
+    → Opens t state letter timer
+opens-inside e f i m = record { leaves = e; asks = f; fits = rw i at m }
+
+pub shut-outside : {t : Transition} {state letter timer : ℕ} (g : Guard) → (g ≡ Inside → ⊥) → Meets g 256 t timer → Opens t state letter timer → ⊥
+shut-outside {t} {timer = timer} g n m o = n (guard-only 256 t timer g Inside m o.fits)
 
 -- none of the first i is open
 module _ (c : List ℕ) (n state letter timer : ℕ) where
@@ -50,3 +65,8 @@ module _ (t : Table) (v : Valid (machine_of t)) where
     none-splits o s =
         let p = (split-law (machine_of t) v).0 s in
         split-found _ _ _ Nothing o (valid-count t v) t.states t.initial reach.tells p.0 p.1 p.2
+
+-- all ranges hold, and the records are as they were seen
+pub whole-told : {c : Config} {states len : ℕ} (fine : Bool) → Fits15 c states len → Tells fine (Fits15 c states len × (fine ≡ true))
+whole-told true f = (f, refl)
+whole-told false f = λ p. let o : ◌≡◌ {A = ℕ} 0 1 = cc in omega arith

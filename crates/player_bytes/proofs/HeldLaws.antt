@@ -68,6 +68,12 @@ module _ {b : List ℕ} {l o : List Pending} {i : ℕ} (s : Reading b l o i) whe
       (sym (append_assoc old (record_at b (i * 8) ∷ []) (drop (suc i) l))) in
       record { upto = omega arith; size = s.size; long = length-set o i p ∙ s.long; is = now }
 
+  pub reading-all : 240 ≤ i → o ≡ records_to 240 b
+  reading-all h =
+      let e : i ≡ 240 = omega (arith, s.upto) in
+      let d : drop i l ≡ [] = drop_all i l (omega (arith, s.size)) in
+      rw (s.is, d, e) (append-nil (records_to 240 b))
+
 -- ten bytes of a configuration, eight of a record
 module _ (c : Config) where
   pub config-put : (l o r : List ℕ) → 10 ≤ length l → o ≡ placed l 0 (bytes 2 (c.state ∷ c.inputs ∷ c.waiting ∷ [])) → r ≡ placed o 6 (bytes 4

@@ -1,10 +1,10 @@
 -- The calls on bytes by the calls on values.
 use mathlib.Core.Path.{◌≡◌, refl, sym, ap, ◌∙◌, subst}
 use mathlib.Core.Logic.{inl, inr}
-use mathlib.Core.List.{List, [], ◌∷◌, map}
+use mathlib.Core.List.{List, [], ◌∷◌, ◌++◌, map}
 use Prim.Native.Nat.{ℕ, ◌/◌, ◌≤◌, ◌<◌}
 use native.Mathlib.Omega.{arith}
-use lib.ListN.{length, take}
+use lib.ListN.{length, take, drop}
 use lib.Seq.{take-take, length-take-le}
 use Rattle.model.specs.Answers.{Fields, fields}
 use Rattle.model.specs.Lists.{All, all_nil, all_cons, Sorted}
@@ -16,7 +16,7 @@ use Rattle.player.specs.declared.Config.{Config}
 use Rattle.player.specs.declared.Move.{Move}
 use Rattle.player.specs.declared.Move.TheVariants.{Time, Input, Output}
 use Rattle.player.specs.Moves.{Whole, Sane, waiting_in, move_tests, MoveDone, PlayOutcome, StartOutcome, start_tests}
-use Rattle.player_bytes.specs.Records.{config_in, records_to, lent_in, records_in}
+use Rattle.player_bytes.specs.Records.{config_in, config_bytes, records_to, lent_in, records_in, records_bytes}
 use Rattle.player_bytes.proofs.HeldLaws.{take-to, length_to}
 use Rattle.player_bytes.specs.Plays.{start_tests_in, StartOnMachine, play_tests_in, ShortOutcome, PlayOnMachine}
 
@@ -58,6 +58,14 @@ module _ (m : Machine) (valid : Valid m) where
     pub start-refused : {f : Fields} {c' : Config} → 0 < f.status → StartOutcome m lent f c' → StartOnMachine m config₀ lent f config₀
     start-refused h (refuses {n} {p} e x k) = refuses e (start-fails n p (after m valid (start_tests m lent) n p x)) refl
     start-refused h (answers ps d) = absurd (omega (arith, h, ap (λ (g : Fields). g.status) d.0))
+
+    pub start-done : {f : Fields} {c' : Config} {config : List ℕ} → f.status ≤ 0 → config ≡ config_bytes c' ++ drop 10 config₀ → StartOutcome m lent f c' → StartOnMachine m config₀ lent f config
+    start-done h w (refuses {n} {p} e x k) =
+        let b = fails-numbered (start_tests m lent) n p (omega arith, omega arith, (omega arith, omega arith, tt)) (after m valid (start_tests m lent) n p x) in
+        absurd (omega (arith, h, b.0, ap (λ (g : Fields). g.status) e))
+    start-done h w (answers ps d) =
+        let t = passes-after m (start_tests m lent) ps in
+        answers ((ten, t.0), t.1) (d.0, w ∙ ap (λ (c : Config). config_bytes c ++ drop 10 config₀) d.1)
 
   -- fewer than 240 records: what is seen of the first ones is seen of all
   module _ (c : Config) (l : List Pending) (all : length l ≡ 240) (lent : ℕ) (few : lent < 240) where
@@ -136,6 +144,15 @@ module _ (m : Machine) (valid : Valid m) where
       played-refused {f} {c'} {l'} h (answers ps d) = absurd (omega (arith, h, done-status m c₀ l₀ mv f c' l' d))
       played-refused h (refuses {n} {p} s x k) = refuses s (moved n p (after m valid (move_all m c₀ l₀ mv) n p x)) (refl, refl)
 
+      pub played-done : {f : Fields} {c' : Config} {l' : List Pending} {config waiting : List ℕ} → f.status ≤ 0
+          → config ≡ config_bytes c' ++ drop 10 config₀ → waiting ≡ records_bytes l' ++ drop 1920 waiting₀ → PlayOutcome m c₀ l₀ mv f c' l'
+          → PlayOnMachine m config₀ waiting₀ mv f config waiting
+      played-done k u v (refuses {n} {p} e x kept) =
+          absurd (not-failed m c₀ l₀ mv n p (omega (arith, k, ap (λ (g : Fields). g.status) e)) (after m valid (move_all m c₀ l₀ mv) n p x))
+      played-done {f} {c'} {l'} k u v (answers ps d) =
+          let t = passes-after m (move_all m c₀ l₀ mv) ps in
+          answers (ten, (t.0, (room, t.1.1))) (record { next = c'; list = l'; done = d; config_is = u; waiting_is = v })
+
     -- the same of what was decoded: the first 240 records, as far as they are lent
     module _ {c : Config} {l : List Pending} (ec : c ≡ c₀) (el : l ≡ records_to 240 waiting₀) where
       pub on-short : {f : Fields} → length waiting₀ / 8 < 240 → ShortOutcome m c (take (length waiting₀ / 8) l) f
@@ -161,3 +178,8 @@ module _ (m : Machine) (valid : Valid m) where
         pub on-refused : {f : Fields} {c' : Config} {l' : List Pending} → 0 < f.status → PlayOutcome m c l mv f c' l'
             → PlayOnMachine m config₀ waiting₀ mv f config₀ waiting₀
         on-refused h x = played-refused long room h (given x)
+
+        pub on-done : {f : Fields} {c' : Config} {l' : List Pending} {config waiting : List ℕ} → f.status ≤ 0
+            → config ≡ config_bytes c' ++ drop 10 config₀ → waiting ≡ records_bytes l' ++ drop 1920 waiting₀ → PlayOutcome m c l mv f c' l'
+            → PlayOnMachine m config₀ waiting₀ mv f config waiting
+        on-done h u v x = played-done long room h u v (given x)

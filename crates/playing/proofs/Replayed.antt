@@ -3,6 +3,7 @@ use mathlib.Core.Path.{◌≡◌, refl}
 use mathlib.Core.List.{List, []}
 use Prim.Native.Nat.{ℕ, ◌*◌, ◌≤◌, ◌<◌, min}
 use native.Mathlib.Omega.{arith}
+use Rattle.std.proofs.Common.{lit≤}
 use lib.ListN.{length}
 use Rattle.model.specs.Lists.{All}
 use Rattle.model.specs.Table.{Transition, Machine, InRange, Valid, at}
@@ -17,7 +18,7 @@ use Rattle.playing.specs.Runs.{Play, Run, played}
 use Rattle.playing.proofs.Plays.{Replays, replays}
 
 abbrev pub fine : 1 ≤ 256
-fine = omega arith
+fine = lit≤ tt
 
 module _ (m : Machine) (valid : Valid m) where
   ranged : (i : ℕ) → i < length m.transitions → InRange m.states (at m.transitions i)

@@ -1,5 +1,5 @@
 -- Of the guard test's answers exactly one holds of a gap, and what each is worth as a test of a step.
-use Rattle.std.proofs.Common.{◌≡◌, ℕ, ◌*◌, ◌≤◌, List, ◌∷◌, refl, inl, inr, mul-le-mul_right, arith}
+use Rattle.std.proofs.Common.{◌≡◌, ℕ, ◌*◌, ◌≤◌, ◌⊎◌, List, ◌∷◌, refl, inl, inr, mul-le-mul_right, arith}
 use mathlib.Core.Logic.{dite}
 use native.Mathlib.Decide.{dec_lt}
 use Rattle.model.specs.Answers.{fields}
@@ -10,6 +10,11 @@ use Rattle.replay.specs.declared.Guard.{Guard}
 use Rattle.replay.specs.declared.Guard.TheVariants.{Inside, Early, Late}
 use Rattle.replay.specs.Guards.{Meets, guard_fields}
 use Rattle.replay.specs.Play.{unless_met}
+
+-- early and late are not inside
+pub not-inside : (c : Guard) → (c ≡ Early) ⊎ (c ≡ Late) → c ≡ Inside → ⊥
+not-inside c (inl h) e = cc
+not-inside c (inr h) e = cc
 
 module _ (q : ℕ) (t : Transition) (g : ℕ) where
   -- two answers that hold are one

@@ -7,7 +7,7 @@ use Rattle.model.specs.Trace.{steps}
 use Rattle.model.specs.Word.{Word}
 use Rattle.model.specs.Order.{Response, response}
 use Rattle.model.specs.Stamps.{word_from}
-use Rattle.model.proofs.Lists.{in-at, get_d_map}
+use Rattle.model.proofs.Lists.{in-at, get_or-map}
 use Rattle.model.proofs.Conversion.{ordered-only, conversion-only}
 use Rattle.model.proofs.Limits.{due-512}
 use Rattle.model.proofs.Paths.{length-steps}
@@ -112,10 +112,10 @@ module _ (m : Machine) (trace : List ℕ) (start : ℕ) (stamps o₀ d₀ o d : 
       let z : Response = response tr word 0 in
       let m : length (map g plays.responses) ≡ length trace = length-map plays.responses g ∙ plays-length in
       let r : get_or plays.responses i z ≡ response tr word (get_or order i 0) =
-      ap (λ (l : List Response). get_or l i z) plays.converts.lists ∙ get_d_map (response tr word) 0 z order i (omega (arith, length-order)) in
+      ap (λ (l : List Response). get_or l i z) plays.converts.lists ∙ get_or-map (response tr word) 0 z order i (omega (arith, length-order)) in
       rw e
       (get_or-append (map g plays.responses) (drop (length trace) b₀) 0 i (omega arith)
-      ∙ get_d_map g z 0 plays.responses i (omega (arith, plays-length)) ∙ ap g r)
+      ∙ get_or-map g z 0 plays.responses i (omega (arith, plays-length)) ∙ ap g r)
 
   -- "Replay gives steps .. counted from 1"
   pub steps-within : (i : ℕ) → i < length trace → (1 ≤ get_or o i 0) × (get_or o i 0 ≤ length trace)

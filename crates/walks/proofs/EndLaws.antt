@@ -16,7 +16,9 @@ use Rattle.model.proofs.CriterionLaws.{above-less, slack-fits, slack-most, slack
 use Rattle.criterion.specs.declared.Goal.{Goal}
 use Rattle.criterion.specs.Goals.{Meets, Possible}
 use Rattle.criterion.proofs.GoalLaws.{goal-sought, met-possible}
-use Rattle.walks.specs.Walks.{Seen, Walk, EndsIn, Among}
+use Rattle.walks.specs.declared.Found.{Found}
+use Rattle.walks.specs.declared.Found.TheVariants.{At, Nothing}
+use Rattle.walks.specs.Walks.{Seen, Walk, EndsIn, Least, Among}
 use Rattle.walks.specs.Best.{cell, Closes, ReadyFor}
 use Rattle.walks.proofs.WalkLaws.{sum-last, trace-last}
 use Rattle.walks.proofs.BestLaws.{cell-small}
@@ -130,3 +132,8 @@ module _ {P : ℕ → Type 0} {l n : ℕ} (len : l ≡ n) where
 
   pub among_none : {i : ℕ} → n ≤ i → ((x : ℕ) → x < i → P x → ⊥) → Among P l → ⊥
   among_none h b p = b p.x (omega (arith, p.known)) p.holds
+
+-- nothing was found
+pub least-not : (P : ℕ → Type 0) (r : Found) → Least P r → r ≡ Nothing → (x : ℕ) → P x → ⊥
+least-not P (At k) l e x p = cc
+least-not P Nothing l e x p = l x p
