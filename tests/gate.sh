@@ -30,12 +30,12 @@ ci)
     find . -type f | sort >"$WORK/before"
     mkdir -p crates/model/out/rlib/model.rlib
     cat "$WORK/ci"
-    exit "$CI"
+    exit "$CI_STATUS"
     ;;
 lib)
     [ ! -f "$WORK/made" ] || { mkdir -p out && cp "$WORK/made" out/libsandgusset.a; }
     cat "$WORK/lib"
-    exit "$LIB"
+    exit "$LIB_STATUS"
     ;;
 esac
 exit 2
@@ -50,8 +50,8 @@ echo 'logic=proved functions=1'
 RATTLE
 chmod +x stand-in/rt kit/bin/rattle
 
-CI=0 LIB=0 WORK=$work
-export CI LIB WORK
+CI_STATUS=0 LIB_STATUS=0 WORK=$work
+export CI_STATUS LIB_STATUS WORK
 # gate: calls the copy; what it printed is in out, its status in $status.
 gate() {
     rm -rf called before
@@ -88,9 +88,9 @@ head -n 1 called | grep -qxF "$work/gate ci"
 verdict 'rt ci is called first, at the top, without names' $?
 diff here before | sed -n 's/^[<>] //p' | sort | cmp -s - <(printf './target/%s.begun\n' judge order play)
 verdict 'and before it nothing is made but the notes, and nothing is taken away' $?
-CI=1 gate
+CI_STATUS=1 gate
 fails 'rt ci ends with status 1' "$proofs"
-CI=2 gate
+CI_STATUS=2 gate
 [ "$status" -eq 2 ]
 verdict 'its status is handed on' $?
 for last in '254 passed, 1 failed' '' 'rt: the disk is full'; do
@@ -143,7 +143,7 @@ goes_on 'it is not built over what rt ci has proved'
 grep -q 'rattle build' called && grep -qxF 'not built over what rt ci has proved:' out && cmp -s made "$archive"
 verdict 'and is said; then rt lib builds it' $?
 rm -r gate/crates/*/out/rlib
-LIB=1 gate
+LIB_STATUS=1 gate
 fails 'rt lib fails' "$host"
 rm -r gate/crates/*/out/rlib
 echo 'logic=not-proved functions=2' >lib
