@@ -17,4 +17,4 @@ returns-then-r-n c =
 pub returns : goal.returns
 returns c =
     let t = rw c.capped.ensures at c.taken-r.ensures in
-    rw (c.greater.ensures, c.capped-2.ensures) (joined_both (omega arith) t c.if-r-n.false (omega arith))
+    rw (c.greater.ensures, c.capped-2.ensures) (joined_both (omega arith) t (omega arith) (omega arith))
