@@ -2,7 +2,7 @@
 use native.Mathlib.Omega.{arith}
 use Rattle.table.specs.Rows.{machine_of, table_in}
 use Rattle.table.proofs.TestLaws.{sound-valid}
-use Rattle.witness.proofs.WitnessLaws.{not-admitted, no_room}
+use Rattle.witness.proofs.WitnessLaws.{not-admitted, no_room, is-admitted}
 use Rattle.witness.proofs.admitted.Goals as goal
 
 pub returns-in-Refused : goal.returns-in-Refused
@@ -22,3 +22,9 @@ returns-then-stamps-least c =
     let a = c.args in
     no_room (machine_of (table_in a.states a.initial a.count a.cells.now)) a.steps a.stamps a.least
     (sound-valid _ c.in_default.is c.check_parts-checked.ensures) (λ h. omega arith)
+
+pub returns : goal.returns
+returns c =
+    let a = c.args in
+    is-admitted (machine_of (table_in a.states a.initial a.count a.cells.now)) a.steps a.stamps a.least
+    (sound-valid _ c.in_default.is c.check_parts-checked.ensures) (omega arith, omega arith)

@@ -1,4 +1,5 @@
 -- Two tries: nothing is written until one shows a pair. What is not named follows from the arithmetic around it.
+use native.Mathlib.Omega.{arith}
 use Rattle.witness.specs.Witness.{none_shown}
 use Rattle.witness.proofs.WitnessLaws.{tried-none, tried-marked, tried-shown, from_lowest}
 use Rattle.witness.proofs.write_lowest.Goals as goal
@@ -23,3 +24,6 @@ returns-then-last c =
     let l = c.loop-found in
     let o = rw c.in_default-shown.is at (rw l.invariant.0 at c.write_from-shown.ensures) in
     from_lowest (rw c.if-last.true at (rw c.in-At.is at l.invariant.1)) o
+
+pub loop-found-smaller : goal.loop-found-smaller
+loop-found-smaller c = grind arith
