@@ -153,7 +153,7 @@ module _ {c l : List ℕ} {k : ℕ} {f : Transition} {m u late : ℕ} (seen : Lo
 -- the search over k stands at k
 pub passed-by : (tr : List Transition) (k : ℕ) → ((i : ℕ) → i < k → PartnerOf tr i Alone) → Passed tr k
 unfolding Passed
-passed-by tr k a i j h c = a i h j c
+passed-by _ k a i j h c = a i h j c
 
 module _ {tr : List Transition} {k : ℕ} (p : Passed tr k) where
   pub passed-more : PartnerOf tr k Alone → Passed tr (k + 1)

@@ -6,7 +6,7 @@ pub loop-m-preserved : goal.loop-m-preserved
 loop-m-preserved c =
     λ e.
     let l = c.loop-m in
-    let f = asked-fits l.any c.args.q l.m e in
+    let f = asked-fits l.any {early = c.args.early.now} {late = c.args.late.now} c.args.q l.m e in
     clear-more (l.invariant f.0) f.1
 
 pub returns : goal.returns
