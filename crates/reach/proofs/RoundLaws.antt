@@ -1,7 +1,7 @@
 -- Laws of breadth first: how the rounds make the marks and the ways in.
 use mathlib.Core.Path.{◌≡◌, refl, sym, ap, ◌∙◌}
 use mathlib.Core.Logic.{◌⊎◌, inl, inr, ⊎_elim, dite}
-use mathlib.Core.List.{List, ◌∷◌}
+use mathlib.Core.List.{List, [], ◌∷◌}
 use Prim.Native.Nat.{ℕ, zero, suc, ◌+◌, ◌-◌, ◌≤◌, ◌<◌}
 use native.Mathlib.Decide.{dec_lt, ℕ_discrete}
 use native.Mathlib.Nat.{eq-or-lt_of_le}
@@ -15,7 +15,7 @@ use Rattle.reach.proofs.ReachLaws.{trace-marked, way-trace}
 
 -- a mark at a state that had none
 unmarked-put : (l : List ℕ) (t x : ℕ) → t < length l → mark l t ≡ 0 → unmarked l ≡ suc (unmarked (set l t (suc x)))
-unmarked-put mathlib.Core.List.[] t x h e = elim h [ ]
+unmarked-put [] t x h e = elim h [ ]
 unmarked-put (y ∷ l) zero x h e = let z : y ≡ 0 = e in rw z
 unmarked-put (zero ∷ l) (suc t) x h e = ap suc (unmarked-put l t x (omega arith) e)
 unmarked-put (suc y ∷ l) (suc t) x h e = unmarked-put l t x (omega arith) e
