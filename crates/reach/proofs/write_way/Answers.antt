@@ -1,13 +1,21 @@
 -- The loop keeps that the steps after the n-th are written, and that s is where they begin.
 use native.Mathlib.Omega.{arith}
 use mathlib.Core.Path.{◌≡◌, ap, ◌∙◌}
-use Prim.Native.Nat.{◌-◌}
-use lib.ListN.{length, length-set}
+use mathlib.Core.List.{List}
+use Prim.Native.Nat.{ℕ, ◌-◌, ◌≤◌}
+use lib.ListN.{length, set, length-set}
+use Rattle.model.specs.Table.{Transition}
 use Rattle.table.specs.declared.Row.{Row}
 use Rattle.table.specs.Rows.{row_of, said}
 use Rattle.reach.specs.Reach.{mark, way_in}
-use Rattle.reach.proofs.ReachLaws.{written-more, written_all, within_none, within-short, stands-none, stands-whole}
+use Rattle.reach.proofs.ReachLaws.{Written, written-more, written_all, within_none, within-short, stands-none, stands-whole}
 use Rattle.reach.proofs.write_way.Goals as goal
+
+-- one step more, by the number and the departure that the code found
+written-put : (t : ℕ → Transition) (via trace₀ : List ℕ) (steps end : ℕ) (trace : List ℕ) (n s : ℕ) → 1 ≤ n → n ≤ length trace₀
+    → Written t via trace₀ steps end trace n s → (i : ℕ) → i ≡ way_in via s → (from : ℕ) → from ≡ (t (way_in via s)).from
+    → Written t via trace₀ steps end (set trace (n - 1) i) (n - 1) from
+written-put t via trace₀ steps end trace n s some room w i e from f = rw (e, f) (written-more t via trace₀ steps end trace n s some room w)
 
 pub returns-then-m-eq0 : goal.returns-then-m-eq0
 returns-then-m-eq0 c =
@@ -34,8 +42,8 @@ loop-n-preserved c =
       omega arith,
       omega arith,
       simp length-set (omega arith),
-      rw (f, e) (written-more (λ i. said (row_of a.cells.now i)) a.via.now a.trace.now steps a.end l.trace l.n l.s
-          (omega arith) (omega arith) l.invariant.4),
+      written-put (λ i. said (row_of a.cells.now i)) a.via.now a.trace.now steps a.end l.trace l.n l.s
+          (omega arith) (omega arith) l.invariant.4 _ e _ (omega (arith, f)),
     )
 
 pub returns : goal.returns
