@@ -14,6 +14,9 @@ returns-then-trace-lt270 c = refuses refl (inl ((λ r. omega arith), refl, refl)
 pub returns-then-stamps-lt270 : goal.returns-then-stamps-lt270
 returns-then-stamps-lt270 c = refuses refl (inl ((λ r. omega arith), refl, refl)) (refl, refl)
 
+pub returns : goal.returns
+returns c = assumption
+
 pub returns-then-calm : goal.returns-then-calm
 returns-then-calm c =
     let a = c.args.read in
