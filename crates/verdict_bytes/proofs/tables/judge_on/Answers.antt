@@ -14,6 +14,9 @@ returns-then-trace-lt270 c = refuses refl (inl ((λ r. omega arith), refl, refl)
 pub returns-then-stamps-lt540 : goal.returns-then-stamps-lt540
 returns-then-stamps-lt540 c = refuses refl (inl ((λ r. omega arith), refl, refl)) (refl, refl)
 
+pub returns : goal.returns
+returns c = assumption
+
 pub returns-then-plain : goal.returns-then-plain
 returns-then-plain c =
     let a = c.args.read in
