@@ -2,9 +2,6 @@
 use Rattle.model.proofs.AnswerLaws.{told, untold}
 use Rattle.criterion.proofs.crosses.Goals as goal
 
-pub returns-then-not-differ : goal.returns-then-not-differ
-returns-then-not-differ c = λ h. untold c.differ.result c.differ.ensures (c.if-not-differ.true) h.differ
-
 pub returns-then-not-above : goal.returns-then-not-above
 returns-then-not-above c = λ h. untold c.above.result c.above.ensures (c.if-not-above.true) h.above
 
