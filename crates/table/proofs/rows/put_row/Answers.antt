@@ -1,11 +1,12 @@
 -- What is not named follows from the arithmetic around it.
+use native.Mathlib.Omega.{arith}
 use mathlib.Core.Path.{sym, ◌∙◌}
 use Prim.Native.Nat.{◌*◌}
 use Rattle.table.proofs.RowLaws.{put-code, put-near, put-far}
 use Rattle.table.proofs.rows.put_row.Goals as goal
 
 pub returns-then-i-ge256 : goal.returns-then-i-ge256
-returns-then-i-ge256 c = put-far _ _ _ c.if-i-ge256.true
+returns-then-i-ge256 c = put-far _ _ _ (omega arith)
 
 pub returns : goal.returns
 returns c =
