@@ -1,7 +1,7 @@
 #![tactic(auto)]
 // What the programs read and print: a table file, numbers, refusals, verdicts. No contract can say what standard input gives and standard output takes:
 // that is run, not proved. Every call is safe and ends, and read_full alone is lent what it could change; a place that a list lacks is printed as 0.
-ghost use Rattle.std.specs.Prelude.{◌≡◌, ◌≤◌, ◌<◌, length, take, IfOk, get_or};
+ghost use Rattle.std.specs.Prelude.{◌≡◌, ℕ, ◌≤◌, ◌<◌, length, take, IfOk, IfErr, get_or};
 ghost use Rattle.std.specs.Io.KnownBytes.{Consumes, IsAtEnd};
 
 use std::io;
@@ -24,11 +24,12 @@ pub fn number(rt: &impl Print, n: usize) -> io::Result<()>
 }
 
 // Reads until buf is full or the input ends, and returns how many bytes it put at the start of buf: what the input gave, and where buf is not full
-// all that it had. A failed read is an error, after which buf holds what came before it, and bytes of no meaning.
+// all that it had. A failed read is an error: at the start of buf stands what the input gave before it, and none of that is lost on the way.
 pub fn read_full<R: Read>(input: &mut R, buf: &mut [u8]) -> io::Result<usize>
     ensures room { IfOk result (λ n. n ≤ length buf.new) }
     ensures bytes { IfOk result (λ n. Consumes (R.remaining input.old) (R.remaining input.new) (take n buf.new)) }
     ensures end { IfOk result (λ n. n < length buf.new → IsAtEnd (R.remaining input.new)) }
+    ensures error { IfErr result (λ _. (n : ℕ) × (n ≤ length buf.new) × Consumes (R.remaining input.old) (R.remaining input.new) (take n buf.new)) }
 {
     let mut done = 0;
     while done < buf.len() {
