@@ -1,5 +1,5 @@
 #!/usr/bin/env bash
-# Tests what ./judge adds to the documents' lines: --explain, --widths, --page, for both questions; and the help of every script.
+# Tests what ./judge adds to the program's lines: --explain, --widths, --page, for both questions; and the help of every script.
 #
 #   tests/desk.sh
 #
@@ -33,7 +33,7 @@ for name in source-trace download-wide split touching map-kept; do
     verdict "explained as stored: $name" $?
     run "$root/examples/$name.table"
     head -n "$(wc -l <out)" "$root/tests/desk/$name.out" | cmp -s - out
-    verdict "explained: document 01's lines come first: $name" $?
+    verdict "explained: the program's lines come first: $name" $?
 done
 # What the README shows is what is printed; .. stands for lines that it leaves out.
 sed -n '/^    \.\/judge --explain/,/^Write your own/s/^    //p' "$root/README.md" | sed '1d; /^ *$/d; /^ *\.\.$/d' >shown
@@ -163,7 +163,7 @@ run --explain --page page.html $'\xff.bin'
 verdict 'a name that is no UTF-8' $?
 rm page.html
 
-# Every picture tells the truth: for random turning tables the responses stand in document 01's order, in both timings and in the early one alone.
+# Every picture tells the truth: for random turning tables the responses stand in their order, in both timings and in the early one alone.
 cat >pictures.py <<'PYTHON'
 import random
 import sys

@@ -1,11 +1,11 @@
 #!/usr/bin/env python3
-"""The independent program: tries the calls against what documents 01 and 02 say.
+"""The independent program: tries the calls against what the rules say (docs/RULES.md).
 
     independent.py DRIVER [--cases N] [--runs N] [--seed S] [--only CASE] [--named START] [--first] [--no-fixed] [--no-random]
                    [--run PREFIX]
 
 It makes table files, traces, stamps and rooms, hands them to the calls through the C driver, and compares the answer
-and the final content of every lent buffer with what the documents ask for. It is written from them and keeps whole sets
+and the final content of every lent buffer with what the rules ask for. It is written from them, never from the code, and keeps whole sets
 of sums where a quick judge would keep one number. Of a witness that they leave free it checks everything that is not
 free. The last line is 'N passed, 0 failed'; the status is 0 exactly if nothing failed.
 """
@@ -24,7 +24,7 @@ import sys
 import time
 
 # ---------------------------------------------------------------------------------------------------------------------
-# Document 01: numbers, table file
+# Numbers, table file
 
 MAX_STATES, MAX_TRANSITIONS, MAX_STEPS, MAX_WORDS = 32, 256, 512, 256
 MAX_LETTER, MAX_V, MAX_D = 255, 4095, 240
@@ -111,7 +111,7 @@ def read_file(data, length):
 
 
 # ---------------------------------------------------------------------------------------------------------------------
-# Document 01: traces, words, responses
+# Traces, words, responses
 
 def joined(rows):
     return all(a[TO] == b[FROM] for a, b in zip(rows, rows[1:]))
@@ -129,7 +129,7 @@ def responses(gaps, rows, q):
 
 
 def told_apart(a, b):
-    """Document 02, R-3: the order of two steps counts exactly if their output letters differ."""
+    """The order of two steps counts exactly if their output letters differ."""
     return a[OUTPUT] != b[OUTPUT]
 
 
@@ -178,10 +178,10 @@ def stamps_of(gaps, start=0):
 
 
 # ---------------------------------------------------------------------------------------------------------------------
-# Document 01: verdict on a table
+# Verdict on a table
 
 class Disagreement(Exception):
-    """Two readings of the documents in this program differ: a fault of this program."""
+    """Two readings of the rules in this program differ: a fault of this program."""
 
 
 def reachable(table):
@@ -310,7 +310,7 @@ def judge(table):
 
 
 # ---------------------------------------------------------------------------------------------------------------------
-# Document 02, R-1: does the table keep request order?
+# Does the table keep request order?
 
 def least_sums(leaving, start):
     """The least sum of u of the walks from a state to each state (0 for the empty one), by Dijkstra."""
@@ -416,7 +416,7 @@ def take_trace(table, buf):
 
 
 class Want:
-    """What the law asks of one case. check() returns None or what is wrong."""
+    """What the rules ask of one case. check() returns None or what is wrong."""
 
     def __init__(self, bufs):
         self.contents = [b.data for b in bufs]      # as they must be after the call
@@ -528,12 +528,12 @@ def verdict_on(call, data, table):
 
 
 def side(gap, row):
-    """Document 02, R-6: 9 if a gap in 1/256 tick is early, at most u; 12 if it is late, more than v; else 0."""
+    """9 if a gap in 1/256 tick is early, at most u; 12 if it is late, more than v; else 0."""
     return 9 if gap <= 256 * row[U] else 12 if gap > 256 * row[V] else 0
 
 
 def replay(rows, start, stamps, order, due):
-    """Document 01's replay on a trace, with R-6's early and late: the answer, and what order and due hold then."""
+    """Replay on a trace, with early and late: the answer, and what order and due hold then."""
     n = len(rows)
     if stamps.length != 4 * n:
         return pack(7), order.data, due.data
@@ -553,7 +553,7 @@ def replay(rows, start, stamps, order, due):
 
 
 def replay_words(rows, starts, stamps, order, due, marks):
-    """Document 02, R-2: the answer, and what order, due and marks hold then. Each word is a single replay that is lent
+    """A night of words: the answer, and what order, due and marks hold then. Each word is a single replay that is lent
     its own places alone; its mark is the place that the single replay names, 0 or the step."""
     n, words = len(rows), starts.length // 4
     kept = [order.data, due.data, marks.data]
@@ -572,7 +572,7 @@ def replay_words(rows, starts, stamps, order, due, marks):
             put(marks.data, struct.pack("<%dH" % words, *places)))
 
 
-# Document 02, R-5: the player
+# The player
 CONFIG, RECORD = struct.Struct("<HHHI"), struct.Struct("<HHI")  # state, inputs, number waiting, timer; step, letter, time left
 MAX_INPUTS, RECORDS, MAX_TIMER, MAX_LEFT = 512, 240, 4096 * 256, 240 * 256
 
@@ -621,7 +621,7 @@ def input_moved(table, split, letter, state, inputs, timer, waits):
 
 
 def player(call, table, number, file, config, waiting):
-    """Document 02, R-5: the answer, and what the configuration and the records hold then."""
+    """A move of the player: the answer, and what the configuration and the records hold then."""
     room = waiting.length // RECORD.size >= RECORDS
     kept = config.data, waiting.data
     if call == PLAYER_START:
@@ -653,7 +653,7 @@ class Past:
         self.table, self.begun = table, False
 
     def add(self, call, number, answer, waits):
-        """A move and its answer, and what waits then. Document 02: never more than the ceiling of greatest d over least u."""
+        """A move and its answer, and what waits then: never more than the ceiling of greatest d over least u."""
         status, first, second, _ = unpack(answer)
         if status == 0 and call == PLAYER_START:
             self.begun, self.gaps, self.rows, self.issued, self.now, self.since, self.most = True, [], [], [], 0, 0, 0
@@ -680,7 +680,7 @@ class Past:
 
 
 def law(call, start, bufs):
-    """What the documents ask of a call with these buffers."""
+    """What the rules ask of a call with these buffers."""
     want = Want(bufs)
     number, table = read_file(bufs[0].data, bufs[0].length)
     if number:
@@ -814,7 +814,7 @@ class Driver:
 
 
 class Case:
-    """One case. `pinned` is what a document itself prints for it, beside what the law says: an answer, or a function
+    """One case. `pinned` is what is written down for it, beside what law() says: an answer, or a function
     of answer and contents that returns None or what is wrong."""
 
     def __init__(self, call, bufs, start=0, name="", pinned=None):
@@ -842,7 +842,7 @@ def try_layout(driver, case, want, rng, layout, null_empty):
         if callable(case.pinned):
             wrong = case.pinned(answer, contents)
         elif answer != case.pinned:
-            wrong = "answer %s, the document has %s" % (show(answer), show(case.pinned))
+            wrong = "answer %s, written down is %s" % (show(answer), show(case.pinned))
     if wrong is None:
         for name, guard, is_now in zip(names, guards, after):
             if guard != is_now:
@@ -868,7 +868,7 @@ def try_case(driver, case, rng):
 class Run:
     """Moves of the player, one after the other on the same buffers. `choose` is handed the configuration (None if it is
     damaged) and the last answer (None before the first move), and gives the next move: a call and its number, or None.
-    `pinned` is what a document says of the whole: a function of the past that returns None or what is wrong."""
+    `pinned` is what is written down of the whole: a function of the past that returns None or what is wrong."""
 
     def __init__(self, bufs, choose, name="", pinned=None):
         self.bufs, self.choose, self.name, self.pinned = bufs, choose, name, pinned
@@ -1894,7 +1894,7 @@ def random_case(seed, index):
 # ---------------------------------------------------------------------------------------------------------------------
 # Fixed cases
 
-# document 01's whole case, its dead end, its loop with a pair of 121 steps; and a loop
+# of the worked cases the whole case, the dead end, the loop with a pair of 121 steps; and a loop
 WHOLE = Table(4, 0, [(0, 0, 1, 1, 5, 20, 40), (1, 0, 2, 2, 15, 20, 30), (2, 0, 3, 3, 10, 15, 10)])
 DEAD_END = Table(3, 0, [(0, 0, 1, 1, 1, 2, 9), (1, 0, 2, 2, 3, 4, 5)])
 LONG_LOOP = Table(3, 0, [(0, 1, 1, 1, 1, 2, 240), (1, 1, 2, 1, 1, 2, 240), (1, 2, 3, 2, 1, 2, 1)])
@@ -1902,7 +1902,7 @@ ONE = Table(1, 0, [(0, 0, 1, 0, 1, 2, 1)])
 
 
 def two_steps(difference):
-    """Document 01's two steps, the second with guard (3,5]."""
+    """The worked two steps, the second with guard (3,5]."""
     return Table(3, 0, [(0, 0, 1, 1, 2, 7, 20 + difference), (1, 0, 2, 2, 3, 5, 20)])
 
 
@@ -1919,10 +1919,10 @@ def exactly(answer, **contents):
     def check(got, after):
         names = next(names for names in BUFFERS.values() if len(names) == len(after) and set(contents) <= set(names))
         if got != answer:
-            return "answer %s, the document has %s" % (show(got), show(answer))
+            return "answer %s, written down is %s" % (show(got), show(answer))
         for name, data in contents.items():
             if after[names.index(name)][:len(data)] != data:
-                return "%s differs from the document" % name
+                return "%s differs from what is written down" % name
         return None
     return check
 
@@ -1955,7 +1955,7 @@ def played_case(rng, name, table, trace, stamps, start=0, pinned=None):
                          rng.randbytes(4 * len(trace))], start, name, pinned)
 
 
-# Document 02, R-2. A word is its start and its stamps; three are document 01's on its whole case: order 1, 3, 2, order 3, 1,
+# Nights of words. A word is its start and its stamps; three are the worked ones on the whole case: order 1, 3, 2, order 3, 1,
 # 2 and a first gap outside.
 FIRST, SECOND, LATE = (0, (2560, 6912, 10496)), (0, (3840, 8192, 11008)), (0, (5888, 10240, 14080))
 
@@ -2004,7 +2004,7 @@ def words_answered(rng):
                 exactly(pack(0, 3), order=u16(1, 2, 2, 1, 1, 2), due=u32(3072, 3072, 3071, 3072, 3072, 3073)))
 
 
-# Document 02, R-6: for each step of the whole case, (5,20], (15,20] and (10,15], a gap inside, an early one and a late one.
+# Early and late: for each step of the whole case, (5,20], (15,20] and (10,15], a gap inside, an early one and a late one.
 SIDES = {0: (3840, 4352, 2816), 9: (1280, 3840, 2560), 12: (5121, 5121, 3841)}
 
 
@@ -2117,7 +2117,7 @@ def words_refused(rng):
     yield case("stamps of 2^32 + 24 bytes: 7", pack(7), file, three, bytes(8), Buf(words, big + 24))
 
 
-# Document 02, R-5. From state 1, where it starts, guards touch; state 3 can't be reached, and two guards overlap there.
+# The player's table. From state 1, where it starts, guards touch; state 3 can't be reached, and two guards overlap there.
 PLAYED = Table(4, 1, [(0, 5, 70, 1, 2, 4, 9), (1, 5, 71, 2, 1, 3, 6), (1, 5, 72, 0, 3, 5, 240), (1, 255, 73, 1, 1, 4095, 1),
                       (2, 0, 74, 2, 4094, 4095, 2), (3, 5, 75, 3, 1, 3, 5), (3, 5, 76, 1, 2, 4, 7)])
 SPLIT_HERE = Table(4, 1, PLAYED.rows + [(1, 5, 77, 1, 2, 4, 9)])        # where it starts
@@ -2399,7 +2399,7 @@ def column(rng, name, table, trace, gaps, pinned):
 
 def issues(*wanted):
     """Exactly these outputs: time, step, letter."""
-    return lambda past: None if past.issued == list(wanted) else "issued %s, the document has %s" % (past.issued, list(wanted))
+    return lambda past: None if past.issued == list(wanted) else "issued %s, written down is %s" % (past.issued, list(wanted))
 
 
 def before(a, b):
@@ -2454,7 +2454,7 @@ def player_runs(rng):
                   "player: moves on a table " + name)
 
 
-# Document 02, R-3. Letters are written 1 and 2, or a and b: the same places of a table with them in all ways.
+# Like letters. Letters are written 1 and 2, or a and b: the same places of a table with them in all ways.
 
 def lettered(table, *letters):
     """The same table with these output letters, the last one to its end."""
@@ -2484,7 +2484,7 @@ def both_verdicts(rng, name, table, trace, pair):
 
 
 def letters_throughout(rng):
-    """Document 01's turning cases with one letter throughout: steady, strict, still overtaken. (As they stand they are the
+    """The turning worked cases with one letter throughout: steady, strict, still overtaken. (As they stand they are the
     first fixed cases.)"""
     loop = (0,) + (1,) * 119 + (2,)
     yield trace_case(rng, "letters: 121 steps of the long loop", LONG_LOOP, loop, pack(TURNING, 1, 121, 121))
@@ -2661,7 +2661,7 @@ def fixed_cases():
 
     strict, steady, in_order = pack(0), pack(0), pack(0)
 
-    # --- document 01: the whole case
+    # --- the whole case
     whole, one = WHOLE, ONE
     file = write_file(whole)
     if len(file) != 66:
@@ -2672,7 +2672,7 @@ def fixed_cases():
            exactly(pack(TURNING, 1, 3, 3), stamps=u32(5120, 10240, 14080, 5120, 8961, 11522)))
     rewritten("whole case: the file is written as it was read", file, pack(0, 66))
 
-    # --- document 01: both sides of each limit
+    # --- both sides of each limit
     replayed("replay at 2560, 6912, 10496: order 1, 3, 2", whole, (0, 1, 2), (2560, 6912, 10496),
              pinned=exactly(pack(0), order=u16(1, 3, 2), due=u32(12800, 13056, 14592)))
     replayed("replay at 3840, 8192, 11008: order 3, 1, 2", whole, (0, 1, 2), (3840, 8192, 11008),
@@ -2959,7 +2959,7 @@ def fixed_cases():
     judged("the greatest sums of v",
            Table(2, 0, [(0, 0, 1, 1, 1, 4095, 240), (1, 0, 2, 1, 1, 4095, 240), (1, 1, 3, 0, 1, 4095, 1)]))
 
-    # --- document 02, R-1
+    # --- request order
     ordered("the whole case is overtaken 1 3", whole,
             exactly(pack(OVERTAKEN, 1, 3, 3), trace=u16(0, 1, 2), stamps=u32(5120, 8961, 11522)))
     ordered("a table without transitions", Table(1, 0, []), in_order)
@@ -3106,7 +3106,7 @@ def fixed_cases():
                  letters_of_traces, letters_of_tables, letters_and_limits, letters_elsewhere, letters_of_full_tables, player_starts,
                  player_times, player_inputs, player_outputs, player_damage, player_refused, player_files, player_runs):
         cases += more(rng)
-    # what the documents have and what has a name first
+    # what the rules work out and what has a name first
     return sorted(cases, key=lambda c: c.name.startswith(("whole case cut", "whole case with bit")))
 
 
@@ -3130,7 +3130,7 @@ def describe(case):
 
 
 def main():
-    parser = argparse.ArgumentParser(description="Tries the calls against what documents 01 and 02 say.")
+    parser = argparse.ArgumentParser(description="Tries the calls against what the rules say (docs/RULES.md).")
     parser.add_argument("driver", help="the C driver, linked with what is to be tried")
     parser.add_argument("--cases", type=int, default=12000, help="number of random cases (default 12000)")
     parser.add_argument("--runs", type=int, default=2000, help="number of random runs of the player (default 2000)")

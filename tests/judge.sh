@@ -2,7 +2,7 @@
 # Tests ./judge and the programs that it builds: what is printed for tables of every
 # verdict and order, for texts and for damaged files, input that is long or comes in
 # pieces, and what the script does about wrong calls and failed builds. The answers are
-# worked out from the documents; where these leave the trace free, the shortest way to
+# worked out from the rules; where these leave the trace free, the shortest way to
 # step k is shown.
 #
 #   tests/judge.sh
@@ -70,7 +70,7 @@ trouble() {
     verdict "$2" $?
 }
 
-# ---- The whole case of document 01 ----
+# ---- The whole case ----
 
 source_file=$root/examples/source-trace.bin
 source_lines=('turning 1 3' '1 0 5120 5120' '2 1 10240 8961' '3 2 14080 11522')

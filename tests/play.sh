@@ -1,6 +1,6 @@
 #!/usr/bin/env bash
 # Tests ./play and the program that it builds: both timings of a witness, every kind of move and of refusal, names
-# and numbers, what a user mistypes, and wrong calls. The answers are worked out from the documents.
+# and numbers, what a user mistypes, and wrong calls. The answers are worked out from the rules.
 #
 #   tests/play.sh
 #

@@ -1,4 +1,4 @@
-"""Answers of the proved programs: the documents' lines, their status, their meaning in words. One table of words for all of them."""
+"""Answers of the proved programs: their lines, their status, their meaning in words. One table of words for all of them."""
 
 from collections import namedtuple
 

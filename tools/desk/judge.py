@@ -3,7 +3,7 @@
     ./judge [OPTIONS] [FILE]
 
 FILE is a table in text (tools/table --help shows the form) or a table file; - or no FILE is standard input.
-Standard output has the documents' lines and nothing else, unless an option asks for more. Strict and turning speak of
+Standard output has the program's lines and nothing else, unless an option asks for more. Strict and turning speak of
 responses that can be told apart, those whose output letters differ: like letters may change places.
 
     --order          another question: does the table keep the order of its requests? Like letters count here. Prints 'in

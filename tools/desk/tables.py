@@ -1,4 +1,4 @@
-"""Tables: their ranges, their file, what can be reached. Document 01 is the law; of a file the proved reader decides."""
+"""Tables: their ranges, their file, what can be reached. The limits are those of docs/RULES.md; of a file the proved reader decides."""
 
 import struct
 from collections import namedtuple

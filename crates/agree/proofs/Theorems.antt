@@ -24,7 +24,8 @@ use Rattle.records.specs.declared.Pending.{Pending}
 use Rattle.player.specs.declared.Config.{Config}
 use Rattle.player.specs.declared.Move.{Move}
 use Rattle.player.specs.declared.Move.TheVariants.{Time, Input, Output}
-use Rattle.player.specs.Moves.{waiting_in, Sane, Whole, move_tests, MoveDone, PlayOutcome}
+use Rattle.records.specs.Record.{Sane}
+use Rattle.player.specs.Moves.{waiting_in, Whole, move_tests, MoveDone, PlayOutcome}
 use Rattle.playing.specs.Runs.{Wait, Play, Run, Open, taken}
 use Rattle.playing.specs.Most.{most_waiting}
 use Rattle.playing.proofs.Kept.{Kept, kept, step_of}
@@ -69,7 +70,7 @@ module _ {m : Machine} {c : Config} {l : List Pending} {h : List Call} (chain : 
   k : Kept p
   k = kept (quick m r.valid) r.run
 
-  -- Theorem 2: "Never more wait than the ceiling of greatest d over least u, or none in an empty table."
+  -- Theorem 2: never more wait than the ceiling of greatest d over least u, or none in an empty table
   pub never-more : c.waiting ≤ most_waiting ts
   never-more = omega (arith, r.holds.count, at-most-waiting m r.valid r.run)
 
@@ -124,7 +125,7 @@ module _ {m : Machine} {c : Config} {l : List Pending} {h : List Call} (chain : 
         subst (λ (s : List Symbol). Activates tr (as-word s)) r.told.symbols
         (subst (λ (x : List ℕ). Activates (steps ts x) (as-word p.symbols)) r.told.trace d.activates)
 
-    -- Theorem 1: "the outputs issued are those of replay, times included"
+    -- Theorem 1: what was issued is what replay lists, with the times
     pub converts : Conversion tr (word_of h) (issued_of h)
     converts =
         subst (Conversion tr (word_of h)) r.told.issued
@@ -180,7 +181,7 @@ module _ {m : Machine} {c : Config} {l : List Pending} {h : List Call} (chain : 
           → (f ≡ fields 0 0 0 0) × (o ≡ issued_steps) × (d ≡ issued_times)
       as-replayed o d x = fields-only m (trace_of h) 0 stamps o₀ d₀ o d issued_steps issued_times x plays
 
-  -- "the last 15 is met by forged configurations only", and so is the first
+  -- only a forged configuration is refused with the last 15, or with the first
   pub never-15 : (mv : Move) (f : Fields) (c' : Config) (l' : List Pending) → PlayOutcome m c l mv f c' l' → f.status ≡ 15 → ⊥
   never-15 mv f c' l' (answers q z) e = done-15 mv f c' l' z e
     where

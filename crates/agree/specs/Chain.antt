@@ -23,7 +23,7 @@ Small (Time t) = t < 2 ^ 32
 Small (Input letter) = letter < 2 ^ 16
 Small Output = Unit {0}
 
--- "any sequence of accepted moves on one table from the start": the calls, the last one first
+-- accepted moves on one table, one after the other from its start: the calls, the last one first
 pub data Chain (m : Machine) : Config → List Pending → List Call → Type 0 where
   begun : {c : Config} (l : List Pending) → StartOutcome m (length l) (fields 0 0 0 0) c → Chain m c l []
   called : {c c' : Config} {l l' : List Pending} {h : List Call} (mv : Move) (i j : ℕ) → Chain m c l h → Small mv
@@ -59,7 +59,7 @@ abbrev pub trace_of : List Call → List ℕ
 trace_of [] = []
 trace_of (x ∷ h) = takes x.move x.first (trace_of h)
 
--- "the word whose gaps are the times between inputs"
+-- the word of the inputs, each gap being the time since the one before
 abbrev pub spells : Move → ℕ → List Symbol → List Symbol
 spells (Time t) g l = l
 spells (Input letter) g l = l ++ (record { letter = letter; gap = g } ∷ [])
@@ -72,7 +72,7 @@ symbols_of (x ∷ h) = spells x.move (since_of h) (symbols_of h)
 abbrev pub word_of : List Call → Word
 word_of h = record { q = 256; fine = lit≤ tt; symbols = symbols_of h }
 
--- "The outputs issued .., each with its step, letter and the time since the start", as the answers tell
+-- the outputs issued, each with its step, letter and the time since the start, as the answers tell
 abbrev pub issues : Move → Response → List Response → List Response
 issues (Time t) r l = l
 issues (Input letter) r l = l

@@ -41,14 +41,14 @@ module _ {file config₀ waiting₀ config waiting : List ℕ} {h : List Call} (
   as_values : Chain m (config_in config) (records_in waiting) h
   as_values = decoded-of chain m read
 
-  -- Theorem 2: "Never more wait than the ceiling of greatest d over least u, or none in an empty table."
+  -- Theorem 2: never more wait than the ceiling of greatest d over least u, or none in an empty table
   pub never-more-bytes : (config_in config).waiting ≤ most_waiting m.transitions
   never-more-bytes = never-more as_values
 
   pub never-241-bytes : (config_in config).waiting ≤ 240
   never-241-bytes = never-241 as_values
 
-  -- "the last 15 is met by forged configurations only", and so is the first
+  -- only a forged configuration is refused with the last 15, or with the first
   pub never-15-bytes : (mv : Move) (f : Fields) (config' waiting' : List ℕ) → PlayBytesOutcome file config waiting mv f config' waiting'
       → f.status ≡ 15 → ⊥
   never-15-bytes mv f config' waiting' o =
@@ -56,7 +56,7 @@ module _ {file config₀ waiting₀ config waiting : List ℕ} {h : List Call} (
       never-15 as_values mv f (config_in config') (records_in waiting')
       (play-values file y.bytes config waiting y.lent.bytes config' waiting' m read mv f y.lent o)
 
-  -- Theorem 1: "the outputs issued are those of replay, times included"
+  -- Theorem 1: what was issued is what replay lists, with the times
   module _ (none_waits : (config_in config).waiting ≡ 0) where
     pub converts-bytes : Conversion (steps m.transitions (trace_of h)) (word_of h) (issued_of h)
     converts-bytes = converts as_values none_waits

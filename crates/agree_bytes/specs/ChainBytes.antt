@@ -8,7 +8,7 @@ use Rattle.agree.specs.Chain.{Call, Small, trace_of, symbols_of}
 use Rattle.player_bytes.specs.Records.{config_in}
 use Rattle.player_bytes.specs.Plays.{StartBytesOutcome, PlayBytesOutcome}
 
--- "any sequence of accepted moves on one table from the start", the buffers first and last: the calls, the last one first
+-- accepted moves on one table, one after the other from its start, the buffers first and last: the calls, the last one first
 pub data ChainBytes (file config₀ waiting₀ : List ℕ) : List ℕ → List ℕ → List Call → Type 0 where
   begun_bytes : {config waiting : List ℕ} → Bytes file → Bytes waiting₀ → StartBytesOutcome file config₀ waiting₀ (fields 0 0 0 0) config waiting
       → ChainBytes file config₀ waiting₀ config waiting []

@@ -1,5 +1,5 @@
--- The answer of an export, as the header says it: "four fields of 16 bits, lowest first: status, first, second, steps. Fields that are not
--- named for an answer are 0."
+-- The answer of an export, as the header says it: status, first, second, steps in 16 bits each, the lowest first. What an answer does not name
+-- is 0.
 use Rattle.std.specs.Prelude.{ℕ, ◌+◌, ◌*◌, ◌%◌, ◌/◌, ◌<◌}
 use Rattle.model.specs.Answers.{Fields, fields}
 

@@ -1,4 +1,4 @@
--- 01, "Both sides of each limit": the cases marked P as data, the turning ones with one letter besides (02, R-3), and what it means that a call
+-- The worked cases that are proved (docs/RULES.md: Worked cases) as data, the turning ones with one letter besides, and what it means that a call
 -- answers one as it says.
 use Rattle.std.specs.Prelude.{◌≡◌, List, [], ◌∷◌, map, ℕ, suc, ◌*◌, ◌≤◌, ◌<◌, length}
 use Rattle.model.specs.Answers.{Fields, fields}
@@ -19,7 +19,7 @@ pub data Case : Type 0 where
   -- a case for every number of states and every initial state
   sized : (ℕ → ℕ → Case) → Case
 
--- "A table has 1 to 32 states numbered from 0, one initial state"
+-- a number of states, and one of them to begin in
 abbrev pub Size : ℕ → ℕ → Type 0
 Size states initial = (1 ≤ states) × (states ≤ 32) × (initial < states)
 
@@ -43,11 +43,11 @@ Holds (sized c) = (states initial : ℕ) → Size states initial → Holds (c st
 abbrev step : ℕ → ℕ → ℕ → ℕ → ℕ → Transition
 step from output u v d = record { from = from; input = 0; output = output; to = suc from; u = u; v = v; d = d }
 
--- "the trace of 001": "0→1 (5,20] d 40, 1→2 (15,20] d 30, 2→3 (10,15] d 10, input 0, outputs 1, 2, 3"
+-- the whole case: 0→1 (5,20] d 40, 1→2 (15,20] d 30, 2→3 (10,15] d 10; input 0, outputs 1, 2, 3
 abbrev pub source : Machine
 source = record { states = 4; initial = 0; transitions = step 0 1 5 20 40 ∷ step 1 2 15 20 30 ∷ step 2 3 10 15 10 ∷ [] }
 
--- "two steps, the second with guard (3,5]": the second has d 10, so D is d less 10
+-- two steps, the second with guard (3,5] and d 10, so D is d less 10
 abbrev pub two : ℕ → Machine
 two d = record { states = 3; initial = 0; transitions = step 0 1 1 2 d ∷ step 1 2 3 5 10 ∷ [] }
 
@@ -55,15 +55,15 @@ two d = record { states = 3; initial = 0; transitions = step 0 1 1 2 d ∷ step 
 abbrev pub one : Machine
 one = record { states = 2; initial = 0; transitions = step 0 0 1 2 1 ∷ [] }
 
--- "a table without transitions"
+-- no transitions
 abbrev pub bare : ℕ → ℕ → Machine
 bare states initial = record { states = states; initial = initial; transitions = [] }
 
--- "only 0→1 (1,2] d 9 and 1→2 (3,4] d 5, initial 0": no trace has 4 steps, which is p
+-- 0→1 (1,2] d 9, then 1→2 (3,4] d 5, and no more: a search of longer traces alone sees nothing
 abbrev pub short : Machine
 short = record { states = 3; initial = 0; transitions = step 0 1 1 2 9 ∷ step 1 2 3 4 5 ∷ [] }
 
--- 02, R-3: "if one letter is used throughout"
+-- the letter 1 throughout
 abbrev pub spoken : Transition → Transition
 spoken t = record { from = t.from; input = t.input; output = 1; to = t.to; u = t.u; v = t.v; d = t.d }
 
@@ -74,11 +74,11 @@ one_letter m = record { states = m.states; initial = m.initial; transitions = ma
 abbrev pub fine : Fields
 fine = fields 0 0 0 0
 
--- "turning 1 2", and the trace has 2 steps
+-- the steps 1 and 2 turn, in a trace of 2 steps
 abbrev pub turning : Fields
 turning = fields 257 1 2 2
 
--- the trace of 001 from start stamp 0
+-- the whole case's trace from start stamp 0
 abbrev on_source : List ℕ → Fields → List ℕ → List ℕ → Case
 on_source stamps = replayed source (0 ∷ 1 ∷ 2 ∷ []) 0 stamps
 
@@ -86,11 +86,11 @@ on_source stamps = replayed source (0 ∷ 1 ∷ 2 ∷ []) 0 stamps
 abbrev on_two : ℕ → Fields → Case
 on_two d = judged (two d) (0 ∷ 1 ∷ [])
 
--- "turning 1 3", and the trace has 3 steps
+-- the steps 1 and 3 turn, in a trace of 3 steps
 abbrev pub whole : Fields
 whole = fields 257 1 3 3
 
--- "01's source word with first stamp 5888 is late" (02, R-6): 12 with the place 1; D is -2, 0, 3, 4, 5, 6 for d 8, 10, 13, 14, 15, 16; the last due time, 652, is the gap 396 and a tick;
+-- a first stamp of 5888 is late: 12 with the place 1; D is -2, 0, 3, 4, 5, 6 for d 8, 10, 13, 14, 15, 16; the last due time, 652, is the gap 396 and a tick;
 -- the last seven are the turning cases as they stand, the whole case among them, and with one letter
 abbrev pub cases : List Case
 cases =

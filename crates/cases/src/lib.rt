@@ -1,2 +1,2 @@
 #![tactic(auto)]
-// Document 01's marked cases: data and one statement in specs/, one theorem in proofs/. No code.
+// The worked cases that are proved: data and one statement in specs/, one theorem in proofs/. No code.

@@ -6,12 +6,12 @@ use Rattle.model.specs.Criterion.{Above, Crosses, Ahead}
 use Rattle.criterion.specs.declared.Goal.{Goal}
 use Rattle.criterion.specs.declared.Goal.TheVariants.{Turns, Overtakes}
 
--- a table verdict asks for a pair that turns, R-1 for one whose later step can respond first
+-- the verdict on a table asks for a pair that turns, request order for one whose later step can respond first
 abbrev pub Meets : Goal → Transition → Transition → ℕ → ℕ → Type 0
 Meets Turns k m u late = Crosses k m u late
 Meets Overtakes k m u late = Ahead k m u late
 
--- R-1 "goes on counting every pair" (02, R-3)
+-- for request order every pair counts
 abbrev pub Told : Goal → Transition → Transition → Type 0
 Told Turns k m = Differ k m
 Told Overtakes k m = Unit {0}

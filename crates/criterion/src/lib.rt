@@ -10,56 +10,41 @@ ghost use Rattle.criterion.specs.Goals.{Meets, Told, Possible};
 use table::Row;
 
 // What a search asks of two steps.
-#[derive(Clone, Copy)]
+// An enum: two questions, each with laws of its own.
+#[derive(Clone, Copy, Debug, PartialEq, Eq)]
 pub enum Goal {
     Turns,
     Overtakes,
 }
 
 // U < D: whether m can respond before k, for the sum u of lower bounds after k up to m.
+#[tactic(auto, unfolding(model::specs::Criterion::Above))]
 pub fn above(k: Row, m: Row, u: u32) -> bool
     ensures { Tells result (Above (said k) (said m) u) }
 {
-    if (k.d as u64) <= (u as u64) + (m.d as u64) {
-        return false;
-    }
-    true
+    u64::from(u) + u64::from(m.d) < u64::from(k.d)
 }
 
 // D ≤ V: whether k can respond before m, for the sum of late gaps after k up to m, in 1/256 tick.
+#[tactic(auto, unfolding(model::specs::Criterion::Below))]
 fn below(k: Row, m: Row, late: u32) -> bool
     ensures { Tells result (Below (said k) (said m) late) }
 {
-    if (late as u64) + (m.d as u64) * 256 < (k.d as u64) * 256 {
-        return false;
-    }
-    true
+    u64::from(k.d) * 256 <= u64::from(late) + u64::from(m.d) * 256
 }
 
 // Whether the two responses can be told apart. A letter that is kept without its row is compared where it is kept: `starts::kept`, and `verdict` where it rules steps out.
 pub fn differ(k: Row, m: Row) -> bool
     ensures { Tells result (Differ (said k) (said m)) }
 {
-    if k.output == m.output {
-        return false;
-    }
-    true
+    k.output != m.output
 }
 
 // Unlike letters and U < D ≤ V: whether the pair turns.
 pub fn crosses(k: Row, m: Row, u: u32, late: u32) -> bool
     ensures { Tells result (Crosses (said k) (said m) u late) }
 {
-    if !differ(k, m) {
-        return false;
-    }
-    if !above(k, m, u) {
-        return false;
-    }
-    if !below(k, m, late) {
-        return false;
-    }
-    true
+    differ(k, m) && above(k, m, u) && below(k, m, late)
 }
 
 // Whether the pair is what is asked for.
@@ -86,33 +71,22 @@ fn told(goal: Goal, k: Row, m: Row) -> bool
 pub fn possible(goal: Goal, k: Row, m: Row) -> bool
     ensures { Tells result (Possible goal (said k) (said m)) }
 {
-    if !above(k, m, m.u as u32) {
-        return false;
-    }
-    if !told(goal, k, m) {
-        return false;
-    }
-    true
+    above(k, m, u32::from(m.u)) && told(goal, k, m)
 }
 
 // So much u that no later step is above k: every delay is at least 1.
+#[tactic(auto, unfolding(model::specs::Criterion::Spent))]
 pub fn spent(k: Row, u: u32) -> bool
     ensures { Tells result (Spent (said k) u) }
 {
-    if (u as u64) + 1 < (k.d as u64) {
-        return false;
-    }
-    true
+    u64::from(k.d) <= u64::from(u) + 1
 }
 
 // The greatest sum of lower bounds between k and m with which m is still above; 0 where there is none.
+#[tactic(auto, unfolding(model::specs::Criterion::slack))]
 pub fn most_before(k: Row, m: Row) -> usize
     ensures { result ≡ slack (said k) (said m) }
 {
-    let last = m.d as usize + m.u as usize;
-    let first = k.d as usize;
-    if first <= last {
-        return 0;
-    }
-    first - last - 1
+    let last = usize::from(m.d) + usize::from(m.u);
+    usize::from(k.d).saturating_sub(last + 1)
 }

@@ -20,7 +20,7 @@ pub sum-late : (l : List Transition) → late_sum l ≡ (span l).v * 256
 unfolding late_gap
 sum-late l = total-scale (λ t. t.v) 256 l
 
--- in the documents' numbers, V in ticks
+-- in ticks
 pub above-is : (k m : Transition) (u : ℕ) → Above k m u ↔ (u + m.d < k.d)
 unfolding Above
 above-is k m u = (λ h. h, λ h. h)
@@ -29,7 +29,7 @@ pub below-is : (k m : Transition) (v : ℕ) → Below k m (v * 256) ↔ (k.d ≤
 unfolding Below
 below-is k m v = (λ h. omega arith, λ h. omega arith)
 
--- "For steps k < m .. The pair turns exactly if U < D ≤ V", of two steps "whose output letters differ" (02, R-3)
+-- the criterion of a pair of steps k < m in ticks: U < D ≤ V, and their output letters differ
 pub record InTicks (tr : List Transition) (k m : ℕ) : Type 0 where
   pub ordered : k < m
   pub inside : m < length tr

@@ -1,4 +1,4 @@
--- Letters (02, R-3): one letter throughout turns nothing, and a steady trace issues its letters in one sequence.
+-- Letters: one letter throughout turns nothing, and a steady trace issues its letters in one sequence.
 use mathlib.Core.Path.{◌≡◌, refl, sym, ap, ◌∙◌}
 use mathlib.Core.Logic.{◌↔◌, inl, inr, dite}
 use mathlib.Core.List.{List, [], ◌∷◌, map, map-map}
@@ -16,7 +16,7 @@ use Rattle.model.proofs.Sorting.{Linear, place, put, listing, listing-in, listin
 use Rattle.model.proofs.Conversion.{before-linear, ordering, order, conversion-is, SameOrder}
 use Rattle.model.proofs.Paths.{trace-all}
 
--- "01's turning cases become steady or strict if one letter is used throughout"
+-- with one letter throughout nothing turns
 pub one-letter : {tr : List Transition} {o : ℕ} → All (λ t. t.output ≡ o) tr → Turning tr → ⊥
 one-letter all t = let x : _ = t.opposed in x.differ (all-at none all x.i x.i_in ∙ sym (all-at none all x.j x.j_in))
 

@@ -1,12 +1,12 @@
 -- The criterion of a pair, for the theorems to compare with the definition by words, and the walks that meet it. Its two halves have one
--- name each, and everything that searches goes by their laws (R-7 and R-10 change what stands here).
+-- name each, and everything that searches goes by their laws: another kind of guard or delay would change what stands here, and no search.
 use Rattle.std.specs.Prelude.{List, [], ◌∷◌, ◌++◌, ℕ, ◌+◌, ◌*◌, ◌-◌, ◌≤◌, ◌<◌, length}
 use Rattle.model.specs.Table.{Transition, Machine, at}
 use Rattle.model.specs.Order.{Differ}
 use Rattle.model.specs.Trace.{Trace, Reached, steps}
 use Rattle.model.specs.Span.{span, late_sum, sum_u, sum_late}
 
--- "let D be d of k minus d of m, which may be negative": U < D, written without a difference, for the sum u of lower bounds
+-- U < D, where D is d of k less d of m: written without a difference, for the sum u of lower bounds
 unfoldable pub Above : Transition → Transition → ℕ → Type 0
 Above k m u = u + m.d < k.d
 
@@ -14,7 +14,7 @@ Above k m u = u + m.d < k.d
 unfoldable pub Below : Transition → Transition → ℕ → Type 0
 Below k m late = k.d * 256 ≤ late + m.d * 256
 
--- "The pair turns exactly if U < D ≤ V", since R-3 of 02 only if the two letters differ
+-- a pair that turns: U < D ≤ V, and the two letters differ
 pub record Crosses (k m : Transition) (u late : ℕ) : Type 0 where
   pub differ : Differ k m
   pub above : Above k m u
@@ -32,11 +32,11 @@ slack k m = k.d - (m.d + m.u) - 1
 abbrev pub Goal : Type 1
 Goal = Transition → Transition → ℕ → ℕ → Type 0
 
--- 02, R-1, asks for the first half alone: the later step can respond before the earlier one
+-- request order asks for the first half alone: the later step can respond before the earlier one
 abbrev pub Ahead : Goal
 Ahead k m u late = Above k m u
 
--- "For steps k < m .. over steps k+1 to m."
+-- of two steps k < m of a trace, the sums being over the steps behind k up to m
 pub record PairMeets (goal : Goal) (tr : List Transition) (k m : ℕ) : Type 0 where
   pub ordered : k < m
   pub inside : m < length tr

@@ -7,14 +7,17 @@ use Prim.Native.Nat.{ℕ, ◌+◌, ◌%◌, min, ◌≤◌, ◌<◌}
 use native.Mathlib.Decide.{ℕ_discrete, dec_lt}
 use native.Mathlib.Nat.{eq-or-lt_of_le}
 use native.Mathlib.Omega.{arith}
+use borrow.Author.Count.{below_more}
 use lib.ListN.{length, get_or, set, replicate, length-set, get_or-replicate}
 use lib.Seq.{get_or-set_same, get_or-set_other}
+use Rattle.std.proofs.lemmas.List.{get_or_default}
+use Rattle.table.specs.declared.Row.{Row}
 use Rattle.model.specs.Answers.{Tells}
 use Rattle.model.specs.Table.{Transition, Machine, Valid, at}
 use Rattle.model.specs.Verdict.{TableOvertakes}
 use Rattle.model.proofs.Neighbours.{next-law, next-in-ticks}
-use Rattle.table.specs.Rows.{rows}
-use Rattle.table.proofs.RowLaws.{length-rows}
+use Rattle.table.specs.Rows.{rows, transitions, row_at, blank}
+use Rattle.table.proofs.RowLaws.{length-rows, at_rows}
 use Rattle.neighbours.specs.Neighbours.{Leaves, Low, NoneOver, Calm}
 
 module _ (ts : List Transition) where
@@ -23,9 +26,11 @@ module _ (ts : List Transition) where
     size = refl;
     low = λ j h. absurd (omega arith);
     real = λ s h g. absurd (omega (arith, get_or-replicate {A = ℕ} 32 s 65536 0 h));
+    short = λ k h. absurd (omega arith);
   }
 
-  module _ (i : ℕ) (l : List ℕ) (w : Low ts i l) {s own x : ℕ} (state : s ≡ (at ts i).from % 32) (sum : own ≡ (at ts i).u + (at ts i).d) (least : x ≡ min (get_or l s 0) own) where
+  module _ (i : ℕ) (l : List ℕ) (w : Low ts i l) {s own x : ℕ} (state : s ≡ (at ts i).from % 32) (sum : own ≡ (at ts i).u + (at ts i).d) (least : x ≡ min (get_or l s 0) own)
+      (bound : (at ts i).d < 65536) where
     here : get_or (set l s x) s 0 ≡ x
     here = get_or-set_same l s x 0 (omega (arith, w.size))
 
@@ -47,18 +52,29 @@ module _ (ts : List Transition) where
           (λ n. let e : x ≡ get_or l s 0 = omega arith in
           rw e (leaves-more s (get_or l s 0) (w.real s (omega arith) (omega (arith, here, ap (λ (y : ℕ). get_or (set l s x) y 0) q)))))))
           (λ n. let o : get_or (set l s x) p 0 ≡ get_or l p 0 = get_or-set_other l s p x 0 n in rw o (leaves-more p (get_or l p 0) (w.real p h (omega arith))));
+      short = below_more _ i w.short bound;
     }
 
--- the two loops make the test
-module _ (c : List ℕ) (n : ℕ) {l : List ℕ} (few : n ≤ 256) (w : Low (rows c n) n l) where
-  pub calm-told : (b : Bool) → NoneOver (rows c n) n l b → Tells b (Calm c n)
-  calm-told true a = record { few = few; after = λ k j h g e. omega (arith, a k h, w.low j g, ap (λ (s : ℕ). get_or l s 0) e) }
-  calm-told false o = λ a.
-      let y = w.real ((at (rows c n) o.k).to % 32) (omega arith) (omega (arith, o.above, o.short)) in
-      omega (arith, a.after o.k y.j o.known y.known (sym y.from), y.sum, o.above)
+-- the least sums and the test of the delays make the answer
+module _ (c : List Row) (l : List ℕ) (few : length c ≤ 256) (w : Low (transitions c) (length c) l) where
+  pub calm-told : (b : Bool) → Tells b (NoneOver c l) → Tells b (Calm c (length c))
+  calm-told true a = record {
+    few = few;
+    after = λ k j h g e.
+        let q = at_rows c (length c) k h in
+        omega (arith, a k blank h, w.low j g, ap (λ (s : ℕ). get_or l s 0) e, ap (λ (t : Transition). t.d) q, ap (λ (t : Transition). get_or l (t.to % 32) 0) q);
+  }
+  calm-told false o = λ a. o (λ k d h.
+      let s : ℕ = (row_at c k).to % 32 in
+      let q = at_rows c (length c) k h in
+      rw (get_or_default c k d blank h) (dite (dec_lt (get_or l s 0) 65536)
+      (λ (b : get_or l s 0 < 65536).
+      let y = w.real s (omega arith) b in
+      omega (arith, a.after k y.j h y.known (ap (λ (t : Transition). t.to % 32) q ∙ sym y.from), y.sum, ap (λ (t : Transition). t.d) q))
+      (λ n. omega (arith, w.short k h, ap (λ (t : Transition). t.d) q))))
 
 -- no step of a calm table can overtake another, and no trace turns
-module _ {c : List ℕ} {n : ℕ} (a : Calm c n) (states initial : ℕ) where
+module _ {c : List Row} {n : ℕ} (a : Calm c n) (states initial : ℕ) where
   abbrev m : Machine
   m = record { states = states; initial = initial; transitions = rows c n }
 

@@ -1,5 +1,6 @@
 -- Transitions that may come one right after the other. States are told apart by their remainder by 32: there are no more of them in a table.
-use Rattle.std.specs.Prelude.{◌≡◌, Bool, true, false, List, ℕ, ◌+◌, ◌%◌, ◌≤◌, ◌<◌, length, get_or}
+use Rattle.std.specs.Prelude.{◌≡◌, All, List, ℕ, ◌+◌, ◌%◌, ◌≤◌, ◌<◌, length, get_or}
+use Rattle.table.specs.declared.Row.{Row}
 use Rattle.model.specs.Table.{Transition, at}
 use Rattle.table.specs.Rows.{rows}
 
@@ -15,21 +16,14 @@ pub record Low (ts : List Transition) (n : ℕ) (l : List ℕ) : Type 0 where
   pub size : length l ≡ 32
   pub low : (j : ℕ) → j < n → get_or l ((at ts j).from % 32) 0 ≤ (at ts j).u + (at ts j).d
   pub real : (s : ℕ) → s < 32 → get_or l s 0 < 65536 → Leaves ts n s (get_or l s 0)
+  pub short : (k : ℕ) → k < n → (at ts k).d < 65536
 
--- the delay of one of the first n transitions is above what is kept for the state that it leads to
-pub record Over (ts : List Transition) (n : ℕ) (l : List ℕ) : Type 0 where
-  pub k : ℕ
-  pub known : k < n
-  pub above : get_or l ((at ts k).to % 32) 0 < (at ts k).d
-  pub short : (at ts k).d < 65536
+-- no delay is above what is kept for the state that the transition leads to
+abbrev pub NoneOver : List Row → List ℕ → Type 0
+NoneOver rows l = All (λ (r : Row). r.d ≤ get_or l (r.to % 32) 0) rows
 
--- whether none is
-abbrev pub NoneOver : List Transition → ℕ → List ℕ → Bool → Type 0
-NoneOver ts n l true = (k : ℕ) → k < n → (at ts k).d ≤ get_or l ((at ts k).to % 32) 0
-NoneOver ts n l false = Over ts n l
-
--- of "0 to 256 transitions" none has a response that one right after it can come before
-pub record Calm (cells : List ℕ) (count : ℕ) : Type 0 where
+-- of at most 256 transitions none has a response that one right after it can come before
+pub record Calm (cells : List Row) (count : ℕ) : Type 0 where
   pub few : count ≤ 256
   pub after : (k j : ℕ) → k < count → j < count → (at (rows cells count) k).to % 32 ≡ (at (rows cells count) j).from % 32
       → (at (rows cells count) k).d ≤ (at (rows cells count) j).u + (at (rows cells count) j).d

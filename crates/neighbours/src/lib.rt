@@ -1,59 +1,36 @@
 #![tactic(auto)]
 // Whether any transition can be overtaken by one that may come right after it. If none can, no step can overtake any other.
-ghost use Rattle.std.specs.Prelude.{◌≡◌, ◌+◌, min, ◌≤◌};
+ghost use Rattle.std.specs.Prelude.{length};
 ghost use Rattle.model.specs.Answers.{Tells};
-ghost use Rattle.table.specs.Rows.{rows};
+ghost use Rattle.table.specs.Rows.{transitions};
 ghost use Rattle.neighbours.specs.Neighbours.{Low, NoneOver, Calm};
 
-use table::{Cells, Row, row_of};
+use table::Row;
 
-// The lesser of x and the sum of a transition's u and d.
-fn sooner(t: Row, x: u32) -> u32
-    ensures { result ≡ min x (t.u + t.d) }
+// For each state the least sum of u and d of the transitions that leave it.
+fn lower(rows: &[Row]) -> [u32; 32]
+    ensures { Low (transitions rows.now) (length rows.now) result }
 {
-    let own = t.u as u32 + t.d as u32;
-    if own < x { own } else { x }
-}
-
-// For each state the least sum of the transitions that leave it.
-fn lower(cells: &Cells, count: usize, least: &mut [u32; 32])
-    requires { (count ≤ 256) × Low (rows cells.now count) 0 least.old }
-    ensures { Low (rows cells.now count) count least.new }
-{
-    let mut i: usize = 0;
-    while i < count {
-        let t = row_of(cells, i);
-        let s = (t.from % 32) as usize;
-        least[s] = sooner(t, least[s]);
-        i += 1;
+    // Where none leaves stands 65536: no delay is above it.
+    let mut least = [65536; 32];
+    for &t in rows {
+        let s = usize::from(t.from % 32);
+        least[s] = least[s].min(u32::from(t.u) + u32::from(t.d));
     }
+    least
 }
 
 // Whether no delay is above what is kept for the state that the transition leads to.
-fn none_over(cells: &Cells, count: usize, least: &[u32; 32]) -> bool
-    requires { count ≤ 256 }
-    ensures { NoneOver (rows cells.now count) count least.now result }
+fn none_over(rows: &[Row], least: &[u32; 32]) -> bool
+    ensures { Tells result (NoneOver rows.now least.now) }
 {
-    let mut i: usize = 0;
-    while i < count {
-        let t = row_of(cells, i);
-        let s = (t.to % 32) as usize;
-        if least[s] < t.d as u32 {
-            return false;
-        }
-        i += 1;
-    }
-    true
+    rows.iter()
+        .all(|t| u32::from(t.d) <= least[usize::from(t.to % 32)])
 }
 
 // Whether none of at most 256 transitions can be overtaken by one right after it.
-pub fn calm(cells: &Cells, count: usize) -> bool
-    ensures { Tells result (Calm cells.now count) }
+pub fn calm(rows: &[Row]) -> bool
+    ensures { Tells result (Calm rows.now (length rows.now)) }
 {
-    if 256 < count {
-        return false;
-    }
-    let mut least = [65536u32; 32];
-    lower(cells, count, &mut least);
-    none_over(cells, count, &least)
+    rows.len() <= 256 && none_over(rows, &lower(rows))
 }

@@ -1,3 +1,4 @@
 pub mod PartLaws
 pub mod NightLaws
+pub mod LentLaws
 pub mod OutcomeLaws

@@ -9,26 +9,24 @@ use native.Mathlib.Omega.{arith}
 use lib.ListN.{length, get_or, take, drop, set, length-append, length-take, length-drop, length-set}
 use Rattle.model.specs.Answers.{Fields}
 use Rattle.model.specs.Table.{Machine, Valid}
-use Rattle.table.specs.declared.Table.{Table}
 use Rattle.table.specs.declared.Refusal.{Refusal}
-use Rattle.table.specs.declared.Refusal.TheVariants.{Uneven, NoRoom}
-use Rattle.table.specs.declared.Checked.{Checked}
-use Rattle.table.specs.declared.Checked.TheVariants as checked
-use Rattle.table.specs.Refusal.{refused_fields, checked_fields}
-use Rattle.table.specs.Rows.{machine_of}
-use Rattle.table.specs.Tests.{Test, Passes, refuses, answers, Tested}
-use Rattle.table.proofs.TestLaws.{tested-passes, tested-fails, passes-valid, valid-passes, valid-fails}
+use Rattle.table.specs.declared.Refusal.TheVariants.{NoTrace, Uneven, NoRoom}
+use Rattle.std.specs.Prelude.{Ok, Err}
+use Rattle.table.specs.declared.Row.{Row}
+use Rattle.table.specs.Refusal.{Checked, checked_fields}
+use Rattle.table.specs.Rows.{transitions}
+use Rattle.table.specs.Tests.{Test, Passes, Fails, refuses, answers, CheckOutcome}
+use Rattle.table.proofs.TestLaws.{refused-fails, passes-valid, valid-passes, valid-fails}
 use Rattle.trace.specs.Named.{TraceIn}
-use Rattle.trace.proofs.TraceLaws.{trace-handed}
 use Rattle.replay.specs.Laid.{WordRun}
 use Rattle.replay.specs.Play as replay
-use Rattle.replay.proofs.ReplayLaws.{first, word-place, word-replay}
-use Rattle.night.specs.declared.Words.TheVariants.{Played, Refused}
-use Rattle.night.specs.Night.{words_fields, part, Room, own_tests, words_tests, WordPlays, WordsOutcome, WordsRun}
+use Rattle.replay.proofs.ReplayLaws.{first, word-place}
+use Rattle.replay.proofs.ListsLaws.{held-trace, rows-replay}
+use Rattle.night.specs.Night.{words_fields, part, Room, own_tests, words_tests, WordPlays, AllPlay, WordsOutcome, WordsRun, run_tests, ListsWords}
 use Rattle.night.proofs.PartLaws.{next_fits, next-end, length_part, set-put, none-words, one_word}
 
 -- the words before w are played, and the next word's places begin at `at`
-pub record Playing (c trace starts stamps o₀ d₀ m₀ o d m : List ℕ) (at w : ℕ) : Type 0 where
+pub record Playing (c : List Row) (trace starts stamps o₀ d₀ m₀ o d m : List ℕ) (at w : ℕ) : Type 0 where
   pub upto : w ≤ length starts
   pub here : at ≡ w * length trace
   pub order_long : length o ≡ length o₀
@@ -36,7 +34,7 @@ pub record Playing (c trace starts stamps o₀ d₀ m₀ o d m : List ℕ) (at w
   pub marks_long : length m ≡ length m₀
   pub run : WordsRun c trace starts stamps w o₀ d₀ m₀ o d m
 
-pub playing-none : (c trace starts stamps o₀ d₀ m₀ : List ℕ) → Playing c trace starts stamps o₀ d₀ m₀ o₀ d₀ m₀ 0 0
+pub playing-none : (c : List Row) (trace starts stamps o₀ d₀ m₀ : List ℕ) → Playing c trace starts stamps o₀ d₀ m₀ o₀ d₀ m₀ 0 0
 playing-none c trace starts stamps o₀ d₀ m₀ = record {
   upto = omega arith;
   here = omega arith;
@@ -46,7 +44,7 @@ playing-none c trace starts stamps o₀ d₀ m₀ = record {
   run = none-words _ _ _ _ _ _ _;
 }
 
-module _ {c trace starts stamps o₀ d₀ m₀ o d m : List ℕ} {at w : ℕ} (k : Playing c trace starts stamps o₀ d₀ m₀ o d m at w) where
+module _ {c : List Row} {trace starts stamps o₀ d₀ m₀ o d m : List ℕ} {at w : ℕ} (k : Playing c trace starts stamps o₀ d₀ m₀ o d m at w) where
   pub playing-all : length starts ≤ w → WordsRun c trace starts stamps (length starts) o₀ d₀ m₀ o d m
   playing-all h = let e : w ≡ length starts = omega arith in rw e at k.run
 
@@ -104,36 +102,28 @@ module _ {c trace starts stamps o₀ d₀ m₀ o d m : List ℕ} {at w : ℕ} (k
       run = run_more mark so sd x em;
     }
 
--- each way out of the tests
-module _ (t : Table) (trace starts stamps o₀ d₀ m₀ : List ℕ) where
-  abbrev m : Machine
-  m = machine_of t
+-- over lists however they stand in memory: each way out of the tests, and the words played
+module _ (c : List Row) (T A S : Type 0) (trace starts stamps o₀ d₀ m₀ : List ℕ) where
+  abbrev Out : Fields → List ℕ → List ℕ → List ℕ → Type 0
+  Out f o d m = ListsWords c T A S trace starts stamps o₀ d₀ m₀ f o d m
 
-  abbrev others : List Test
-  others = own_tests m trace starts stamps o₀ d₀ m₀
+  pub no-trace : (T × TraceIn c (length c) trace → ⊥) → Out (words_fields (Err NoTrace)) o₀ d₀ m₀
+  no-trace x = refuses refl (inl (x, refl, refl)) (refl, refl, refl)
 
-  abbrev Told : Fields → Type 0
-  Told = Tested (words_tests m trace starts stamps o₀ d₀ m₀)
+  module _ (traced : T × TraceIn c (length c) trace) where
+    abbrev Even : Type 0
+    Even = A × S × (length starts ≤ 256) × (length stamps ≡ length starts * length trace)
 
-  -- of a valid table and a trace of it, the lengths decide
-  abbrev Even : Type 0
-  Even = (length starts ≤ 256) × (length stamps ≡ length starts * length trace)
+    pub uneven : (Even → ⊥) → Out (words_fields (Err Uneven)) o₀ d₀ m₀
+    uneven x = refuses refl (inr (traced, inl (x, refl, refl))) (refl, refl, refl)
 
-  pub record Lengths : Type 0 where
-    pub most : length trace ≤ 512
-    pub uneven : (Even → ⊥) → Told (refused_fields Uneven)
-    pub cramped : Even → (Room (length starts) (length trace) o₀ d₀ m₀ → ⊥) → Told (refused_fields NoRoom)
-    pub roomy : Even → Room (length starts) (length trace) o₀ d₀ m₀ → Told (checked_fields checked.Sound)
+    module _ (even : Even) where
+      pub cramped : (Room (length starts) (length trace) o₀ d₀ m₀ → ⊥) → Out (words_fields (Err NoRoom)) o₀ d₀ m₀
+      cramped x = refuses refl (inr (traced, inr (even, inl (x, refl, refl)))) (refl, refl, refl)
 
-  pub lengths : Valid m → TraceIn t.cells t.count trace → Lengths
-  lengths valid traced =
-      let handed = (trace-handed t trace valid).0 traced in
-      record {
-        most = handed.most;
-        uneven = λ n. refuses refl ((valid-fails m valid others 7 0).1 (inr (handed, inl (n, refl, refl)))) tt;
-        cramped = λ e n. refuses refl ((valid-fails m valid others 8 0).1 (inr (handed, inr (e, inl (n, refl, refl))))) tt;
-        roomy = λ e r. answers (valid-passes m valid others (handed, (e, (r, tt)))) refl;
-      }
+      pub words-played : Room (length starts) (length trace) o₀ d₀ m₀ → {o d m : List ℕ}
+          → WordsRun c trace starts stamps (length starts) o₀ d₀ m₀ o d m → Out (words_fields (Ok (length starts))) o d m
+      words-played r x = answers (traced, (even, (r, tt))) (refl, x)
 
 -- the call after its tests
 module _ (m : Machine) (trace starts stamps o₀ d₀ m₀ : List ℕ) where
@@ -142,13 +132,6 @@ module _ (m : Machine) (trace starts stamps o₀ d₀ m₀ : List ℕ) where
 
   abbrev n : ℕ
   n = length trace
-
-  pub refused : {a : Checked} {r : Refusal} → a ≡ checked.Refused r → Tested tests (checked_fields a)
-      → WordsOutcome m trace starts stamps o₀ d₀ m₀ (words_fields (Refused r)) o₀ d₀ m₀
-  refused {r = r} e x = refuses refl (tested-fails tests e x) (refl, refl, refl)
-
-  pub passed : {a : Checked} → a ≡ checked.Sound → Tested tests (checked_fields a) → Passes tests
-  passed e x = tested-passes tests (omega arith) e x
 
   module _ (p : Passes tests) where
     pub passed-room : (length stamps ≡ length starts * n) × Room (length starts) n o₀ d₀ m₀
@@ -167,24 +150,42 @@ module _ (m : Machine) (trace starts stamps o₀ d₀ m₀ : List ℕ) where
         (replay.own_tests m trace (part n w stamps) (part n w o₀) (part n w d₀))
         (p.1.1.1.0, (es, ((omega arith, omega arith), tt)))
 
--- so each word is a replay
-module _ (t : Table) (trace starts stamps o₀ d₀ m₀ : List ℕ) (p : Passes (words_tests (machine_of t) trace starts stamps o₀ d₀ m₀)) where
-  module _ {o d marks : List ℕ} (k : WordsRun t.cells trace starts stamps (length starts) o₀ d₀ m₀ o d marks) where
+-- with a table that is refused
+pub numbers-refused : (m : Machine) (trace starts stamps o₀ d₀ m₀ : List ℕ) {a : Checked} {r : Refusal} → a ≡ Err r
+    → CheckOutcome m (checked_fields a) → WordsOutcome m trace starts stamps o₀ d₀ m₀ (words_fields (Err r)) o₀ d₀ m₀
+numbers-refused m trace starts stamps o₀ d₀ m₀ e x =
+    refuses refl (refused-fails m (own_tests m trace starts stamps o₀ d₀ m₀) e x) (refl, refl, refl)
+
+-- numbers as the machine has them are whole, and each word is a replay
+module _ (m : Machine) (valid : Valid m) (c : List Row) (held : transitions c ≡ m.transitions) (trace starts stamps o₀ d₀ m₀ : List ℕ) where
+  abbrev own : List Test
+  own = own_tests m trace starts stamps o₀ d₀ m₀
+
+  plain-fails : (i p : ℕ) → Fails (run_tests c (Unit {0}) (Unit {0}) (Unit {0}) trace starts stamps o₀ d₀ m₀) i p → Fails own i p
+  plain-fails i p (inl (n, x, y)) = inl ((λ h. n (tt, held-trace m valid c held trace h)), x, y)
+  plain-fails i p (inr (t, inl (n, x, y))) = inr (rw held at t.1.1, inl ((λ e. n (tt, tt, e.0, e.1)), x, y))
+  plain-fails i p (inr (t, inr (e, f))) = inr (rw held at t.1.1, inr ((e.2, e.3), f))
+
+  module _ (p : Passes (words_tests m trace starts stamps o₀ d₀ m₀)) {o d marks : List ℕ} (k : WordsRun c trace starts stamps (length starts) o₀ d₀ m₀ o d marks) where
     single : (w : ℕ) → w < length starts
-        → WordPlays (λ f. replay.ReplayOutcome (machine_of t) trace (get_or starts w 0) (part (length trace) w stamps)
+        → WordPlays (λ f. replay.ReplayOutcome m trace (get_or starts w 0) (part (length trace) w stamps)
         (part (length trace) w o₀) (part (length trace) w d₀) f (part (length trace) w o) (part (length trace) w d)) (λ step. part 1 w marks ≡ step ∷ [])
     single w h =
         let n : ℕ = length trace in
-        let q = word_first (machine_of t) trace starts stamps o₀ d₀ m₀ p w h in
+        let q = word_first m trace starts stamps o₀ d₀ m₀ p w h in
         let x = k.word w h in
         record {
           said = x.said;
-          outcome = word-replay t trace (get_or starts w 0) (part n w stamps) (part n w o₀) (part n w d₀) q x.outcome;
+          outcome = rows-replay m valid trace (get_or starts w 0) (part n w stamps) (part n w o₀) (part n w d₀) c held q x.outcome;
           marked = x.marked;
         }
 
-    pub all-played : WordsOutcome (machine_of t) trace starts stamps o₀ d₀ m₀ (words_fields (Played (length starts))) o d marks
-    all-played = answers p (
-      refl,
-      record { word = single; order_rest = k.order_rest; due_rest = k.due_rest; marks_rest = k.marks_rest },
-    )
+    all-played : AllPlay m trace starts stamps o₀ d₀ m₀ o d marks
+    all-played = record { word = single; order_rest = k.order_rest; due_rest = k.due_rest; marks_rest = k.marks_rest }
+
+  pub numbers-words : {f : Fields} {o d marks : List ℕ} → ListsWords c (Unit {0}) (Unit {0}) (Unit {0}) trace starts stamps o₀ d₀ m₀ f o d marks
+      → WordsOutcome m trace starts stamps o₀ d₀ m₀ f o d marks
+  numbers-words (refuses {n = i} {p = p} z b k) = refuses z ((valid-fails m valid own i p).1 (plain-fails i p b)) k
+  numbers-words (answers q x) =
+      let p = valid-passes m valid own (rw held at q.0.1.1, ((q.1.0.2, q.1.0.3), q.1.1)) in
+      answers p (x.0, all-played p x.1)

@@ -11,24 +11,24 @@ use Rattle.model.specs.Table.{Transition, Machine}
 use Rattle.model.specs.Trace.{steps}
 use Rattle.model.specs.Stamps.{gaps_from}
 use Rattle.model.proofs.Paths.{length-steps}
+use Rattle.table.specs.declared.Row.{Row}
 use Rattle.table.specs.Tests.{Test, Passes, Answered, refuses, answers}
 use Rattle.table.proofs.RefusalLaws.{refusal-some, refused-only}
 use Rattle.table.proofs.TestLaws.{fails-back, answered-only}
 use Rattle.replay.specs.Play.{gap_tests, ReplayOutcome}
 use Rattle.replay.proofs.GapLaws.{gaps-refuse}
 use Rattle.replay.proofs.ReplayLaws.{first}
-use Rattle.replay.proofs.OutcomeLaws.{fields-only}
-use Rattle.night.specs.declared.Words.{Words}
-use Rattle.night.specs.declared.Words.TheVariants.{Played, Refused}
-use Rattle.night.specs.Night.{words_fields, part, words_tests, EachWord, WordPlays, WordsOutcome}
+use Rattle.replay.proofs.OutcomeLaws.{fields-only, word-run-only}
+use Rattle.std.specs.Prelude.{Ok, Err}
+use Rattle.night.specs.Night.{Words, words_fields, part, words_tests, EachWord, WordPlays, WordsOutcome, ListsWords}
 use Rattle.night.proofs.NightLaws.{word_first}
 
 -- equal fields: equal answers
 pub words-said : (a b : Words) → words_fields a ≡ words_fields b → a ≡ b
-words-said (Played w) (Played v) e = ap Played (ap (λ f. f.first) e)
-words-said (Played w) (Refused s) e = absurd (omega (arith, refusal-some s, ap (λ f. f.status) e))
-words-said (Refused r) (Played v) e = absurd (omega (arith, refusal-some r, ap (λ f. f.status) e))
-words-said (Refused r) (Refused s) e = ap Refused (refused-only r s e)
+words-said (Ok w) (Ok v) e = ap Ok (ap (λ f. f.first) e)
+words-said (Ok w) (Err s) e = absurd (omega (arith, refusal-some s, ap (λ f. f.status) e))
+words-said (Err r) (Ok v) e = absurd (omega (arith, refusal-some r, ap (λ f. f.status) e))
+words-said (Err r) (Err s) e = ap Err (refused-only r s e)
 
 -- lists are equal whose words are, and what lies beyond them
 parts-front : (n words : ℕ) (l k : List ℕ) → ((w : ℕ) → w < words → part n w l ≡ part n w k) → take (words * n) l ≡ take (words * n) k
@@ -55,7 +55,7 @@ each-only a b c words o₀ d₀ m₀ o d k o' d' k' one p q = (
     same : (w : ℕ) → w < words → (part a w o ≡ part a w o') × (part b w d ≡ part b w d') × (part c w k ≡ part c w k')
     same w h = one w h (part a w o) (part b w d) (part c w k) (part a w o') (part b w d') (part c w k') (p.word w h) (q.word w h)
 
--- "9 is given per word", and 12 in its place: after the tests of the call no other refusal comes
+-- after the tests of the call a word is played or refused with 9 or 12, and with nothing else
 abbrev pub PlayedOrMissed : ℕ → Fields → Type 0
 PlayedOrMissed n f =
     (f ≡ fields 0 0 0 0) ⊎ (((f ≡ fields 9 f.first 0 0) ⊎ (f ≡ fields 12 f.first 0 0)) × (1 ≤ f.first) × (f.first ≤ n))
@@ -99,3 +99,19 @@ module _ (m : Machine) (trace starts stamps o₀ d₀ m₀ : List ℕ) where
       rw (← length-steps m.transitions trace)
       (played-or-missed (first m trace (get_or starts w 0) (part n w stamps) (part n w o₀) (part n w d₀)) (steps m.transitions trace)
       (gaps_from (get_or starts w 0) (part n w stamps)) (word_first m trace starts stamps o₀ d₀ m₀ p w h) (λ d. d.0) x.outcome)
+
+-- the same over lists however they stand in memory: answer and all three
+module _ (c : List Row) (T A S : Type 0) (trace starts stamps o₀ d₀ m₀ : List ℕ) where
+  abbrev Lists : Fields → List ℕ → List ℕ → List ℕ → Type 0
+  Lists f o d k = ListsWords c T A S trace starts stamps o₀ d₀ m₀ f o d k
+
+  pub lists-words-only : (f g : Fields) (o d k o' d' k' : List ℕ) → Lists f o d k → Lists g o' d' k' → (f ≡ g) × (o ≡ o') × (d ≡ d') × (k ≡ k')
+  lists-words-only f g o d k o' d' k' a b =
+      answered-only {R = (f ≡ g) × (o ≡ o') × (d ≡ d') × (k ≡ k')} (λ e x y. (e, x.0 ∙ sym y.0, x.1 ∙ sym y.1, x.2 ∙ sym y.2))
+      (λ x y.
+      let e = each-only (length trace) (length trace) 1 (length starts) o₀ d₀ m₀ o d k o' d' k'
+      (λ w h x y z x' y' z' p q.
+      let r = word-run-only p.outcome q.outcome in
+      (r.1, r.2, p.marked ∙ ap (λ (f : Fields). f.first ∷ []) r.0 ∙ sym q.marked)) x.1 y.1 in
+      (x.0 ∙ sym y.0, e.0, e.1, e.2))
+      a b

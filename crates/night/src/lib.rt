@@ -1,112 +1,100 @@
 #![tactic(auto)]
 // A night of words for one trace in one call.
 ghost use Rattle.std.specs.Prelude.{◌≡◌, ◌*◌, length};
-ghost use Rattle.table.specs.Refusal.{checked_fields};
 ghost use Rattle.table.specs.Rows.{machine_of};
-ghost use Rattle.table.specs.Tests.{Tested};
-ghost use Rattle.night.specs.Night.{words_fields, Room, words_tests, WordsRun, WordsOutcome};
+ghost use Rattle.night.specs.Night.{words_fields, Room, WordsRun, ListsWords, WordsOutcome};
 
-use table::{Cells, Checked, Refusal, Table};
-
-#[derive(Clone, Copy)]
-pub enum Words {
-    Played(usize),
-    Refused(Refusal),
-}
-
-// The tests of the call, in rising order of their numbers.
-fn tested(
-    t: Table,
-    trace: &[u16],
-    starts: &[u32],
-    stamps: &[u32],
-    order: &[u16],
-    due: &[u32],
-    marks: &[u16],
-) -> Checked
-    ensures { Tested
-        (words_tests (machine_of t) trace.now starts.now stamps.now
-        order.now due.now marks.now)
-        (checked_fields result) }
-{
-    let checked = trace::tested_trace(t.states, t.initial, t.count, &t.cells, trace);
-    if let Checked::Refused(r) = checked {
-        return Checked::Refused(r);
-    }
-    let words = starts.len();
-    if 256 < words {
-        return Checked::Refused(Refusal::Uneven);
-    }
-    let all = words * trace.len();
-    if stamps.len() != all {
-        return Checked::Refused(Refusal::Uneven);
-    }
-    if order.len() < all {
-        return Checked::Refused(Refusal::NoRoom);
-    }
-    if due.len() < all {
-        return Checked::Refused(Refusal::NoRoom);
-    }
-    if marks.len() < words {
-        return Checked::Refused(Refusal::NoRoom);
-    }
-    Checked::Sound
-}
+use layout::{Layout, Plain};
+use table::{Refusal, Row, Table};
 
 // Every word in turn on its own places, its mark beside it.
-fn play_all(
-    cells: &Cells,
-    trace: &[u16],
-    starts: &[u32],
-    stamps: &[u32],
-    order: &mut [u16],
-    due: &mut [u32],
-    marks: &mut [u16],
+fn play_all<T: Layout<u16>, S: Layout<u32>, O: Layout<u16>, D: Layout<u32>>(
+    rows: &[Row],
+    trace: &[T::Cell],
+    starts: &[S::Cell],
+    stamps: &[S::Cell],
+    order: &mut [O::Cell],
+    due: &mut [D::Cell],
+    marks: &mut [O::Cell],
 )
-    requires { (length stamps.now ≡ length starts.now * length trace.now)
-        × Room (length starts.now) (length trace.now) order.old due.old marks.old }
-    ensures { WordsRun
-        cells.now trace.now starts.now stamps.now (length starts.now)
-        order.old due.old marks.old order.new due.new marks.new }
+    requires { (length (S.list stamps.now) ≡ length (S.list starts.now) * length (T.list trace.now))
+        × Room (length (S.list starts.now)) (length (T.list trace.now)) (O.list order.old) (D.list due.old) (O.list marks.old) }
+    ensures run { WordsRun
+        rows.now (T.list trace.now) (S.list starts.now) (S.list stamps.now) (length (S.list starts.now))
+        (O.list order.old) (D.list due.old) (O.list marks.old) (O.list order.new) (D.list due.new) (O.list marks.new) }
+    ensures order_rest { O.beside order.new ≡ O.beside order.old }
+    ensures due_rest { D.beside due.new ≡ D.beside due.old }
+    ensures marks_rest { O.beside marks.new ≡ O.beside marks.old }
 {
-    let n = trace.len();
+    let n = T::len(trace);
+    let words = S::len(starts);
     let mut at: usize = 0;
-    let mut w: usize = 0;
-    while w < starts.len() {
+    for w in 0..words {
         let end = at + n;
-        let start = starts[w];
-        let played = replay::play_word(
-            cells,
+        let start = S::at(starts, w);
+        let played = replay::play_word_on::<T, S, O, D>(
+            rows,
             trace,
             start,
-            &stamps[at..end],
-            &mut order[at..end],
-            &mut due[at..end],
+            &stamps[at * S::SIZE..end * S::SIZE],
+            &mut order[at * O::SIZE..end * O::SIZE],
+            &mut due[at * D::SIZE..end * D::SIZE],
         );
-        marks[w] = replay::mark(played);
+        O::put(marks, w, replay::mark(played));
         at = end;
-        w += 1;
     }
+}
+
+// After the tests of the table: the list a trace, the lengths, then the words, however the lists stand in memory.
+pub fn words_on<T: Layout<u16>, S: Layout<u32>, O: Layout<u16>, D: Layout<u32>>(
+    rows: &[Row],
+    trace: &[T::Cell],
+    starts: &[S::Cell],
+    stamps: &[S::Cell],
+    order: &mut [O::Cell],
+    due: &mut [D::Cell],
+    marks: &mut [O::Cell],
+) -> Result<usize, Refusal>
+    ensures run { ListsWords rows.now (T.whole trace.now) (S.whole starts.now) (S.whole stamps.now)
+        (T.list trace.now) (S.list starts.now) (S.list stamps.now) (O.list order.old) (D.list due.old) (O.list marks.old)
+        (words_fields result) (O.list order.new) (D.list due.new) (O.list marks.new) }
+    ensures order_rest { O.beside order.new ≡ O.beside order.old }
+    ensures due_rest { D.beside due.new ≡ D.beside due.old }
+    ensures marks_rest { O.beside marks.new ≡ O.beside marks.old }
+{
+    if !T::is_whole(trace) || !trace::is_trace_on::<T>(rows, trace) {
+        return Err(Refusal::NoTrace);
+    }
+    let words = S::len(starts);
+    if !S::is_whole(starts) || !S::is_whole(stamps) || 256 < words {
+        return Err(Refusal::Uneven);
+    }
+    let all = words * T::len(trace);
+    if S::len(stamps) != all {
+        return Err(Refusal::Uneven);
+    }
+    if O::len(order) < all || D::len(due) < all || O::len(marks) < words {
+        return Err(Refusal::NoRoom);
+    }
+    play_all::<T, S, O, D>(rows, trace, starts, stamps, order, due, marks);
+    Ok(words)
 }
 
 // Up to 256 words, each played as by itself: a refused word keeps its own places, its mark names the step, and the rest is played.
 pub fn replay_words(
-    t: Table,
+    t: &Table,
     trace: &[u16],
     starts: &[u32],
     stamps: &[u32],
     order: &mut [u16],
     due: &mut [u32],
     marks: &mut [u16],
-) -> Words
+) -> Result<usize, Refusal>
     ensures { WordsOutcome
-        (machine_of t) trace.now starts.now stamps.now
+        (machine_of t.now) trace.now starts.now stamps.now
         order.old due.old marks.old
         (words_fields result) order.new due.new marks.new }
 {
-    if let Checked::Refused(r) = tested(t, trace, starts, stamps, order, due, marks) {
-        return Words::Refused(r);
-    }
-    play_all(&t.cells, trace, starts, stamps, order, due, marks);
-    Words::Played(starts.len())
+    table::check(t)?;
+    words_on::<Plain, Plain, Plain, Plain>(t.rows(), trace, starts, stamps, order, due, marks)
 }

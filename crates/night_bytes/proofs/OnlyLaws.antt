@@ -17,8 +17,7 @@ use Rattle.places.proofs.PlaceLaws.{length-wholes}
 use Rattle.places.proofs.ReadingLaws.{on-file}
 use Rattle.on_bytes.specs.Replays.{ReplayOnMachine, sizes_tests}
 use Rattle.on_bytes.proofs.OnlyLaws.{replay-machine-only}
-use Rattle.night.specs.declared.Words.{Words}
-use Rattle.night.specs.Night.{words_fields, part, WordPlays}
+use Rattle.night.specs.Night.{Words, words_fields, part, WordPlays}
 use Rattle.night.proofs.PartLaws.{next_fits, length_part}
 use Rattle.night.proofs.OutcomeLaws.{words-said, each-only, PlayedOrMissed, played-or-missed}
 use Rattle.night_bytes.specs.NightBytes.{size_tests, WordsBytesOutcome}

@@ -1,2 +1,1 @@
 pub mod NightBytes
-pub mod Runs

@@ -10,8 +10,8 @@ use Rattle.places.specs.Places.{trace_test}
 use Rattle.on_bytes.specs.Replays.{ReplayOnMachine}
 use Rattle.night.specs.Night.{part, Room, EachWord, WordPlays}
 
--- the tests after the file's and the trace's, for words of n steps: "7 if the stamps don't number words times steps; 8 for room; a 257th word is 7",
--- and "stamps not a multiple of four bytes are 7; room counts whole places"
+-- the tests after the file's and the trace's, for words of n steps: 7 if a byte of start stamps or stamps is left over, for more than 256 words, or if
+-- stamps are not words times steps; 8 for room, in whole places
 abbrev pub size_tests : ℕ → List ℕ → List ℕ → List ℕ → List ℕ → List ℕ → List Test
 size_tests n starts stamps order₀ due₀ marks₀ =
     unless 7 ((length starts % 4 ≡ 0) × (length stamps % 4 ≡ 0) × (length starts / 4 ≤ 256) × (length stamps / 4 ≡ length starts / 4 * n)) ∷
@@ -25,7 +25,7 @@ AllOnMachine m trace starts stamps order₀ due₀ marks₀ order due marks =
     WordPlays (λ f. ReplayOnMachine m trace (le 4 starts (w * 4)) (part (length trace / 2 * 4) w stamps) o₀ d₀ f o d) (λ step. mark ≡ bytes 2 (step ∷ [])))
     (length starts / 4) order₀ due₀ marks₀ order due marks
 
--- with a machine that was read; "A refusal .. writes nothing"
+-- with a machine that was read; a refusal writes nothing
 abbrev pub WordsOnMachine : Machine → List ℕ → List ℕ → List ℕ → List ℕ → List ℕ → List ℕ → Fields → List ℕ → List ℕ → List ℕ → Type 0
 WordsOnMachine m trace starts stamps order₀ due₀ marks₀ f order due marks =
     Answered (trace_test m trace ∷ size_tests (length trace / 2) starts stamps order₀ due₀ marks₀)

@@ -4,14 +4,13 @@ use mathlib.Core.List.{List}
 use Prim.Native.Nat.{ℕ}
 use Rattle.model.specs.Answers.{Fields}
 use Rattle.model.specs.Table.{Machine}
-use Rattle.table_file.specs.declared.Written.{Written}
+use Rattle.table.specs.Refusal.{Checked, checked_fields}
+use Rattle.table.proofs.RefusalLaws.{checked-only}
 use Rattle.table_file.specs.File.{read_file}
-use Rattle.table_file.specs.Write.{written_fields}
+use Rattle.table_file.specs.Write.{Written, written_fields}
 use Rattle.table_file.proofs.WrittenLaws.{written-only}
 use Rattle.table.proofs.TestLaws.{answered-only}
-use Rattle.replay.specs.declared.Replayed.{Replayed}
-use Rattle.replay.specs.Play.{replayed_fields}
-use Rattle.replay.proofs.OutcomeLaws.{replayed-only, play-only}
+use Rattle.replay.proofs.OutcomeLaws.{play-only}
 use Rattle.on_bytes.specs.Replays.{ReplayOnMachine, ReplayBytesOutcome}
 use Rattle.on_bytes.specs.Rewrites.{RewriteBytesOutcome}
 use Rattle.places.proofs.ReadingLaws.{on-file}
@@ -45,8 +44,8 @@ module _ (trace : List ℕ) (start : ℕ) (stamps order₀ due₀ file : List �
       (λ n p x y. (x.0 ∙ sym y.0, x.1 ∙ sym y.1, x.2 ∙ sym y.2))
       (λ m. replay-machine-only m trace start stamps order₀ due₀ f g o d o' d')
 
-  pub replay-bytes-only : (r s : Replayed) (o d o' d' : List ℕ) → ReplayBytesOutcome file trace start stamps order₀ due₀ (replayed_fields r) o d
-      → ReplayBytesOutcome file trace start stamps order₀ due₀ (replayed_fields s) o' d' → (r ≡ s) × (o ≡ o') × (d ≡ d')
+  pub replay-bytes-only : (r s : Checked) (o d o' d' : List ℕ) → ReplayBytesOutcome file trace start stamps order₀ due₀ (checked_fields r) o d
+      → ReplayBytesOutcome file trace start stamps order₀ due₀ (checked_fields s) o' d' → (r ≡ s) × (o ≡ o') × (d ≡ d')
   replay-bytes-only r s o d o' d' x y =
-      let p = replay-fields-only (replayed_fields r) (replayed_fields s) o d o' d' x y in
-      (replayed-only r s p.0, p.1, p.2)
+      let p = replay-fields-only (checked_fields r) (checked_fields s) o d o' d' x y in
+      (checked-only r s p.0, p.1, p.2)

@@ -27,7 +27,7 @@ bytes_tests m trace start stamps order₀ due₀ =
 abbrev pub word_in : Machine → List ℕ → ℕ → List ℕ → Word
 word_in m trace start stamps = word_from (path_in m trace) start (wholes 4 stamps)
 
--- with a machine that was read: the steps and the due times in bytes, each then what stood there; "A refusal .. writes nothing"
+-- with a machine that was read: the steps and the due times in bytes, each then what stood there; a refusal writes nothing
 abbrev pub ReplayOnMachine : Machine → List ℕ → ℕ → List ℕ → List ℕ → List ℕ → Fields → List ℕ → List ℕ → Type 0
 ReplayOnMachine m trace start stamps order₀ due₀ f order due =
     PlayOutcome (bytes_tests m trace start stamps order₀ due₀) (path_in m trace) (word_in m trace start stamps)

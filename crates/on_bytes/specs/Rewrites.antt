@@ -5,7 +5,7 @@ use Rattle.table.specs.Tests.{unless, Answered}
 use Rattle.table_file.specs.File.{read_file}
 use Rattle.places.specs.OnFile.{on_file}
 
--- "writing needs at least the file's length": the file, then what stood there
+-- room for the file: the file, then what stood there
 abbrev pub Rewritten : List ℕ → List ℕ → Fields → List ℕ → Type 0
 Rewritten file out₀ f out =
     Answered (unless 8 (length file ≤ length out₀) ∷ [])

@@ -9,8 +9,7 @@ use Rattle.model.specs.Table.{Machine}
 use Rattle.model.proofs.Paths.{trace-known}
 use Rattle.wire.specs.Bytes.{Bytes, wholes}
 use Rattle.table.specs.Showing.{shown_in, Agree, ByTrace}
-use Rattle.table_order.specs.declared.OnOrder.{OnOrder}
-use Rattle.table_order.specs.OnOrder.{order_fields, OrderShows, overtaken_shown}
+use Rattle.table_order.specs.OnOrder.{Ordered, order_fields, OrderShows, overtaken_shown}
 use Rattle.table_order.specs.Agree.{SameShown}
 use Rattle.table_order.proofs.OnlyLaws.{answer-only, order-pinned, order-by}
 use Rattle.places.proofs.ShownLaws.{bytes-is, bytes-agree, bytes-only, bytes-plain-only}
@@ -45,13 +44,13 @@ module _ (trace₀ stamps₀ : List ℕ) (file : List ℕ) (read : Bytes file) w
     fields-plain-only = bytes-plain-only order-pinned order-known 270 270 trace₀ stamps₀ file read f g trace stamps trace' stamps' x y
 
   -- the same of the answers
-  pub order-bytes-only : (r s : OnOrder) (trace stamps trace' stamps' : List ℕ) → Out (order_fields r) trace stamps → Out (order_fields s) trace' stamps'
+  pub order-bytes-only : (r s : Ordered) (trace stamps trace' stamps' : List ℕ) → Out (order_fields r) trace stamps → Out (order_fields s) trace' stamps'
       → shown_in (order_fields r) (wholes 2 trace) ≡ shown_in (order_fields s) (wholes 2 trace') → (r ≡ s) × (trace ≡ trace') × (stamps ≡ stamps')
   order-bytes-only r s trace stamps trace' stamps' x y h =
       let o = fields-only (order_fields r) (order_fields s) trace stamps trace' stamps' x y h in
       (answer-only r s o.0, o.1, o.2)
 
-  pub order-bytes-plain-only : (r s : OnOrder) (trace stamps trace' stamps' : List ℕ) → Out (order_fields r) trace stamps → Out (order_fields s) trace' stamps'
+  pub order-bytes-plain-only : (r s : Ordered) (trace stamps trace' stamps' : List ℕ) → Out (order_fields r) trace stamps → Out (order_fields s) trace' stamps'
       → (order_fields r).status < 256 → (r ≡ s) × (trace ≡ trace') × (stamps ≡ stamps')
   order-bytes-plain-only r s trace stamps trace' stamps' x y h =
       let o = fields-plain-only (order_fields r) (order_fields s) trace stamps trace' stamps' x y h in

@@ -7,50 +7,62 @@ use native.Mathlib.Decide.{dec_lt}
 use native.Mathlib.Omega.{arith}
 use borrow.Author.Tests.{lt-ltb, le-ltb}
 use lib.ListN.{length, take, drop}
-use lib.Seq.{take_at, take_all, take-length}
+use lib.Seq.{take_at}
 use Rattle.model.specs.Lists.{over}
 use Rattle.model.specs.Table.{Transition}
 use Rattle.model.specs.Trace.{Handed}
-use Rattle.wire.specs.Bytes.{bytes, placed, wholes, taken}
+use Rattle.wire.specs.Bytes.{le, taken_by, bytes_by, bytes, placed, wholes}
 use Rattle.wire.proofs.Bytes.{length-les, length-bytes, placed-fits, placed-none}
-use Rattle.places.specs.Places.{fitted, handed_on, Decoded}
+use Rattle.places.specs.Places.{wholes_by, fitted_by, fitted, handed_on, DecodedBy, Decoded}
 
 pub length-wholes : (w : ℕ) (b : List ℕ) → length (wholes w b) ≡ length b / w
-length-wholes w b = length-les w (length b / w) b 0
+length-wholes w b = length-les (le w) w (length b / w) b 0
 
 -- what fits, by its three cases
+module _ {A : Type 0} (f : List ℕ → ℕ → A) (room w : ℕ) (b : List ℕ) where
+  none-by : 0 < length b % w → fitted_by f room w b ≡ []
+  unfolding fitted_by
+  none-by h = rw (lt-ltb _ _ h)
+
+  module _ (even : length b % w ≤ 0) where
+    long-by : room < length b / w → fitted_by f room w b ≡ []
+    unfolding fitted_by
+    long-by h = rw (le-ltb _ _ even, lt-ltb _ _ h)
+
+    whole-by : length b / w ≤ room → fitted_by f room w b ≡ wholes_by f w b
+    unfolding fitted_by
+    whole-by h = rw (le-ltb _ _ even, le-ltb _ _ h)
+
+-- the same of plain numbers
 module _ (room w : ℕ) (b : List ℕ) where
   pub rest-none : 0 < length b % w → fitted room w b ≡ []
-  unfolding fitted
-  rest-none h = rw (lt-ltb _ _ h)
+  rest-none = none-by (le w) room w b
 
   module _ (even : length b % w ≤ 0) where
     pub long-none : room < length b / w → fitted room w b ≡ []
-    unfolding fitted
-    long-none h = rw (le-ltb _ _ even, lt-ltb _ _ h)
+    long-none = long-by (le w) room w b even
 
     pub whole-all : length b / w ≤ room → fitted room w b ≡ wholes w b
-    unfolding fitted
-    whole-all h = rw (le-ltb _ _ even, le-ltb _ _ h)
+    whole-all = whole-by (le w) room w b even
 
 -- what the decoding leaves: nothing changed, or the whole list in front
-module _ {w : ℕ} {b out₀ : List ℕ} where
-  decoded-none : fitted (length out₀) w b ≡ [] → Decoded w b out₀ 0 out₀
+module _ {A : Type 0} (f : List ℕ → ℕ → A) (w : ℕ) (b : List ℕ) (out₀ : List A) where
+  decoded-none : fitted_by f (length out₀) w b ≡ [] → DecodedBy f w b out₀ 0 out₀
   decoded-none e = record { count = rw e; few = omega arith; is = rw e }
 
-  pub decoded-rest : 0 < length b % w → Decoded w b out₀ 0 out₀
-  decoded-rest h = decoded-none (rest-none (length out₀) w b h)
+  pub decoded-rest : 0 < length b % w → DecodedBy f w b out₀ 0 out₀
+  decoded-rest h = decoded-none (none-by f (length out₀) w b h)
 
-  pub decoded-long : length b % w ≤ 0 → length out₀ < length b / w → Decoded w b out₀ 0 out₀
-  decoded-long e h = decoded-none (long-none (length out₀) w b e h)
+  pub decoded-long : length b % w ≤ 0 → length out₀ < length b / w → DecodedBy f w b out₀ 0 out₀
+  decoded-long e h = decoded-none (long-by f (length out₀) w b e h)
 
-  pub decoded-all : {out : List ℕ} → length b % w ≤ 0 → length b / w ≤ length out₀ → out ≡ taken w b out₀ → Decoded w b out₀ (length b / w) out
-  unfolding taken
+  pub decoded-all : {out : List A} → length b % w ≤ 0 → length b / w ≤ length out₀ → out ≡ taken_by f w b out₀ → DecodedBy f w b out₀ (length b / w) out
+  unfolding taken_by
   decoded-all {out} e h t =
       let n : min (length out₀) (length b / w) ≡ length b / w = omega arith in
-      let f : out ≡ wholes w b ++ drop (length b / w) out₀ = rw n at t in
-      let g = whole-all (length out₀) w b e h in
-      record { count = rw g (sym (length-wholes w b)); few = h; is = rw g f }
+      let is : out ≡ wholes_by f w b ++ drop (length b / w) out₀ = rw n at t in
+      let g = whole-by f (length out₀) w b e h in
+      record { count = rw g (sym (length-les f w (length b / w) b 0)); few = h; is = rw g is }
 
 module _ (w : ℕ) (b out₀ : List ℕ) where
   -- two outcomes that the contract allows are equal, count and content
@@ -96,17 +108,6 @@ module _ (ts : List Transition) (trace : List ℕ) where
   pub trace-count : Handed ts (handed_on 2 trace) → length (handed_on 2 trace) ≡ length trace / 2
   trace-count h = ap length (handed-whole 2 trace h.some).is ∙ length-wholes 2 trace
 
--- no more are taken than there are
-take-lesser : (n : ℕ) (l : List ℕ) {k : ℕ} → k ≡ min n (length l) → take k l ≡ take n l
-take-lesser n l {k} h =
-    dite (dec_lt n (length l)) (λ f. let e : k ≡ n = omega arith in rw e)
-    (λ f. let e : k ≡ length l = omega arith in rw (e, take-length l, take_all n l (omega arith)))
-
--- so the first n are written back, of which there may be fewer
-pub put_back : (w n : ℕ) (l out₀ : List ℕ) {k : ℕ} {out : List ℕ} → k ≡ min n (length l) → out ≡ placed out₀ 0 (bytes w (take k l))
-    → out ≡ placed out₀ 0 (bytes w (take n l))
-put_back w n l out₀ h e = rw (← take-lesser n l h) e
-
 -- the used places written back: xs, of which there are n, from the front of what came back
 pub back-over : (w n : ℕ) (xs more l : List ℕ) → length xs ≡ n → n * w ≤ length l → placed l 0 (bytes w (take n (xs ++ more))) ≡ over (bytes w xs) l
 back-over w n xs more l e h =
@@ -116,7 +117,7 @@ back-over w n xs more l e h =
 
 -- none written back: as it was
 pub back_none : (w : ℕ) (xs l : List ℕ) → placed l 0 (bytes w (take 0 xs)) ≡ l
-unfolding bytes
+unfolding bytes_by
 back_none w xs l = placed-none l 0 (omega arith)
 
 -- n numbers of two bytes and k of four, from the front of what a call on values left, written back over l and r

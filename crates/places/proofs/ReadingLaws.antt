@@ -1,4 +1,5 @@
 -- What the reader's answer says of a file in bytes.
+use Rattle.std.specs.Prelude.{Err}
 use mathlib.Core.Path.{◌≡◌, refl, sym, ap, ◌∙◌, subst}
 use mathlib.Core.Logic.{◌↔◌}
 use mathlib.Core.List.{List}
@@ -9,13 +10,11 @@ use Rattle.model.specs.Answers.{fields}
 use Rattle.model.specs.Table.{Machine, Valid}
 use Rattle.wire.specs.Bytes.{Bytes}
 use Rattle.table_file.specs.declared.Reading.{Reading}
-use Rattle.table_file.specs.declared.FileRead.{FileRead}
 use Rattle.table.specs.declared.Refusal.{Refusal}
-use Rattle.table.specs.declared.Checked.{Checked}
-use Rattle.table.specs.declared.Checked.TheVariants.{Sound, Refused}
-use Rattle.table.specs.Refusal.{refusal_number, refusal_place, refused_fields, checked_fields}
+use Rattle.table.specs.declared.Table.{Table}
+use Rattle.table.specs.Refusal.{Checked, passing, refusal_number, refusal_place, refused_fields, checked_fields}
 use Rattle.table.specs.Rows.{machine_of}
-use Rattle.table_file.specs.File.{Scan, machine, stopped, read_file, answer_of, given, held_in, ReadOutcome, IntoOutcome}
+use Rattle.table_file.specs.File.{Scan, machine, stopped, read_file, answer_of, given, ReadOutcome, IntoOutcome}
 use Rattle.table.proofs.RefusalLaws.{refusal-some}
 use Rattle.table.proofs.CellLaws.{machine-table}
 use Rattle.table_file.proofs.FileLaws.{sound, places}
@@ -24,7 +23,7 @@ use Rattle.places.specs.OnFile.{on_file}
 
 -- an answer, by what it tells of the file
 module _ (l : List ℕ) {a : Checked} (told : checked_fields a ≡ answer_of (read_file l)) where
-  pub told-stopped : {r : Refusal} → a ≡ Refused r → read_file l ≡ stopped (refusal_number r) (refusal_place r)
+  pub told-stopped : {r : Refusal} → a ≡ Err r → read_file l ≡ stopped (refusal_number r) (refusal_place r)
   told-stopped {r} e = by (read_file l) refl
     where
       by : (s : Scan) → read_file l ≡ s → read_file l ≡ stopped (refusal_number r) (refusal_place r)
@@ -37,7 +36,7 @@ module _ (l : List ℕ) {a : Checked} (told : checked_fields a ≡ answer_of (re
           let j : p ≡ refusal_place r = ap (λ x. x.first) f in
           q ∙ rw (i, j)
 
-  pub told-machine : a ≡ Sound → read_file l ≡ machine (given (read_file l))
+  pub told-machine : a ≡ passing → read_file l ≡ machine (given (read_file l))
   told-machine e = by (read_file l) refl
     where
       by : (s : Scan) → read_file l ≡ s → read_file l ≡ machine (given (read_file l))
@@ -48,24 +47,24 @@ module _ (l : List ℕ) {a : Checked} (told : checked_fields a ≡ answer_of (re
 
 -- a table by value
 module _ (l : List ℕ) (a : Reading) (read : ReadOutcome (read_file l) (checked_fields a.answer) a.table) where
-  pub refused-stopped : (r : Refusal) → a.answer ≡ Refused r → read_file l ≡ stopped (refusal_number r) (refusal_place r)
+  pub refused-stopped : (r : Refusal) → a.answer ≡ Err r → read_file l ≡ stopped (refusal_number r) (refusal_place r)
   refused-stopped r e = told-stopped l read.0 e
 
   -- the machine that was read
-  module _ (e : a.answer ≡ Sound) where
+  module _ (e : a.answer ≡ passing) where
     pub sound-read : read_file l ≡ machine (machine_of a.table)
     sound-read = told-machine l read.0 e ∙ ap machine (sym (ap machine_of read.1 ∙ machine-table (given (read_file l))))
 
     pub read-valid : Bytes l → Valid (machine_of a.table)
     read-valid b = (sound l (machine_of a.table) b sound-read).0
 
--- a table in lent cells
-module _ (l : List ℕ) {a : FileRead} {c₀ c : List ℕ} (read : IntoOutcome (read_file l) c₀ a c) where
-  pub into-stopped : {r : Refusal} → a.answer ≡ Refused r → read_file l ≡ stopped (refusal_number r) (refusal_place r)
-  into-stopped e = told-stopped l read.tells.answers e
+-- a lent table that was read into
+module _ (l : List ℕ) (t₀ t : Table) where
+  pub into-stopped : (r : Refusal) → IntoOutcome (read_file l) t₀ (Err r) t → read_file l ≡ stopped (refusal_number r) (refusal_place r)
+  into-stopped r o = told-stopped l o.0 refl
 
-  pub into-read : Bytes l → length c₀ ≡ 1792 → a.answer ≡ Sound → read_file l ≡ machine (machine_of (held_in a c))
-  into-read b long e = told-machine l read.tells.answers e ∙ ap machine (sym (into-machine l b read long))
+  pub into-read : Bytes l → length t₀.cells ≡ 256 → IntoOutcome (read_file l) t₀ passing t → read_file l ≡ machine (machine_of t)
+  into-read b long o = into-machine l b t₀ t o long
 
 -- two facts of one file: by its refusal or by its machine
 pub on-file : (s : Scan) (P P' : ℕ → ℕ → Type 0) (Q Q' : Machine → Type 0) {C : Type 0} → ((n p : ℕ) → P n p → P' n p → C)

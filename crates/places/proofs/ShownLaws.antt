@@ -1,10 +1,12 @@
 -- The call on bytes by the call on values, and what two of its outcomes agree in: once for every call that may show a trace.
+use Rattle.std.specs.Prelude.{IfSome, Bool, true, false}
+use Rattle.std.specs.Bool.{then_some}
 use mathlib.Core.Path.{◌≡◌, refl, sym, ap, ◌∙◌}
 use mathlib.Core.List.{List, [], ◌∷◌}
 use Prim.Native.Nat.{ℕ, zero, suc, ◌+◌, ◌*◌, ◌/◌, ◌≤◌, ◌<◌}
 use native.Mathlib.Omega.{arith}
 use lib.ListN.{length, take, drop, length-append}
-use Rattle.model.specs.Answers.{Fields, fields}
+use Rattle.model.specs.Answers.{Fields, fields, Tells}
 use Rattle.model.specs.Lists.{All, all_nil, all_cons, over}
 use Rattle.model.specs.Table.{Machine, Valid}
 use Rattle.wire.specs.Bytes.{bytes, placed, Bytes, les, le, wholes}
@@ -19,6 +21,12 @@ use Rattle.places.specs.ShownBytes.{room_tests, ShownBytes, ShownOnFile}
 use Rattle.places.proofs.PlaceLaws.{both-none, both-over}
 use Rattle.places.proofs.AgreeLaws.{after-fails}
 use Rattle.places.proofs.ReadingLaws.{of-file}
+
+-- a quiet answer at sight, where the test tells what is so of the machine
+pub sighted : {A P Quiet : Type 0} (said : A → Fields) (b : Bool) (x : A) → said x ≡ fields 0 0 0 0 → (P → Quiet) → Tells b P
+    → IfSome (then_some b x) (λ a. (said a ≡ fields 0 0 0 0) × Quiet)
+sighted said true x e quiet p = (e, quiet p)
+sighted said false x e quiet p = tt
 
 -- the call on values with a and b places t₀ and s₀, made for a valid machine
 module _ (m : Machine) (valid : Valid m) (a b : ℕ) (t₀ s₀ : List ℕ) (long : (length t₀ ≡ a) × (length s₀ ≡ b)) {Quiet : Type 0}

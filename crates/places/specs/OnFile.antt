@@ -1,4 +1,4 @@
--- "The table goes in as a table file, refused with the reader's number and offset before anything else."
+-- The table is handed over as its file: before all else a refused file is answered by the reader's number and offset.
 use Rattle.std.specs.Prelude.{ℕ}
 use Rattle.model.specs.Table.{Machine}
 use Rattle.table_file.specs.File.{Scan, machine, stopped}

@@ -1,5 +1,3 @@
-pub mod OpenLaws
-pub mod SeenLaws
 pub mod MoveLaws
-pub mod DecideLaws
+pub mod OpenLaws
 pub mod OnlyLaws

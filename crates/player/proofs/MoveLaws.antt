@@ -1,231 +1,221 @@
--- What each move comes to, on every list of which this was seen.
-use mathlib.Core.Path.{◌≡◌, refl, sym, ap, ◌∙◌, subst}
-use mathlib.Core.Logic.{inl, inr, ⊎_elim, dite}
+-- What each move comes to, on a checked table and a configuration that is not damaged; and the tests before it, in their order.
+use mathlib.Core.Path.{◌≡◌, refl, sym, ap, ◌∙◌}
+use mathlib.Core.Logic.{inl, inr, dite}
 use mathlib.Core.List.{List, [], ◌∷◌, ◌++◌, append_assoc}
 use Prim.Native.Nat.{ℕ, suc, ◌+◌, ◌*◌, ◌-◌, ◌≤◌, ◌<◌, min}
 use native.Mathlib.Omega.{arith}
 use native.Mathlib.Numerals.{add-one}
 use native.Mathlib.Decide.{dec_lt}
-use lib.ListN.{length, take, drop}
-use lib.Seq.{get_or-take, take-take, set_split}
-use borrow.Author.Tests.{le-leb, lt-leb, eq-eqb, ne_eqb, lt-ltb}
+use lib.ListN.{length, get_or, set, take, drop, length-take}
+use lib.Seq.{get_or-take, take-take, set_split, split_at}
+use borrow.Author.Tests.{le-leb, lt-ltb}
+use Rattle.std.specs.Prelude.{None, Ok, Err}
 use Rattle.model.specs.Answers.{Fields, fields}
-use Rattle.model.specs.Lists.{All}
-use Rattle.model.specs.Table.{Transition, Machine, Valid, at, none}
+use Rattle.model.specs.Lists.{In, All}
+use Rattle.model.specs.Table.{Transition, Machine, Valid, at}
 use Rattle.model.specs.Verdict.{Splits}
-use Rattle.model.proofs.Lists.{all-at}
+use Rattle.model.proofs.Lists.{all_in, in-append}
 use Rattle.table.specs.declared.Row.{Row}
-use Rattle.table.specs.declared.Table.{Table}
-use Rattle.table.specs.Rows.{rows, row_of, said, machine_of}
-use Rattle.table.specs.Tests.{Test, unless, Passes, Fails, Answered, refuses, answers, after_table}
+use Rattle.table.specs.declared.Refusal.{Refusal}
+use Rattle.table.specs.Refusal.{checked_fields, refused_fields}
+use Rattle.table.specs.Rows.{transitions, row_of, said}
+use Rattle.table.specs.Tests.{Test, unless, Passes, Fails, Answered, refuses, answers, after_table, CheckOutcome}
 use Rattle.table.proofs.RowLaws.{length-rows, row-known}
-use Rattle.table.proofs.TestLaws.{passes_append, fails-back, valid-passes, valid-count}
+use Rattle.table.proofs.TestLaws.{passes_append, fails-back, valid-passes, valid-fails, refused-fails}
 use Rattle.records.specs.declared.Pending.{Pending}
-use Rattle.records.specs.declared.Seen.{Seen}
-use Rattle.records.specs.declared.Work.{Work}
-use Rattle.records.specs.declared.Work.TheVariants.{Look, Age, Close, Add}
-use Rattle.records.specs.Record.{blank}
-use Rattle.records.specs.Sweep.{swept, swept_in}
-use Rattle.records.proofs.SweepLaws.{age-list, add-list, close-list}
-use Rattle.records.proofs.LookLaws.{Due}
+use Rattle.records.specs.Record.{blank, DueAt, aged_in, closed_in}
 use Rattle.playing.specs.Runs.{Open}
 use Rattle.player.specs.declared.Config.{Config}
 use Rattle.player.specs.declared.Move.{Move}
 use Rattle.player.specs.declared.Move.TheVariants.{Time, Input, Output}
-use Rattle.player.specs.declared.Answer.{Answer}
-use Rattle.player.specs.declared.Answer.TheVariants.{Closed, Untimely, Split, Spent, Damaged}
-use Rattle.player.specs.declared.Decided.{Decided}
+use Rattle.player.specs.declared.Done.{Done}
+use Rattle.player.specs.declared.Denial.{Denial}
+use Rattle.player.specs.declared.Denial.TheVariants.{Closed, Untimely, Split, Spent, Damaged}
 use Rattle.player.specs.Answer.{answer_fields}
-use Rattle.player.specs.Moves.{waiting_in, Whole, FirstDue, move_tests, PlayOutcome}
-use Rattle.player.specs.Decide.{capped_of, refused_of, time_of, input_of, output_of, FirstOpen, SeenIn, MoveOutcome, InputDecides}
-use Rattle.player.proofs.SeenLaws.{seen, seen-is, passes-soon, first-due, due-least, none_first, none-least, seen-due}
-
-pub swept_none : (l : List Pending) → (swept_in 0 l (Age 0)).list ≡ l
-swept_none l = rw (le-leb 0 (length l) (omega arith)) (age-list 0 l 0 (omega arith))
-
--- a sweep that has its records
-swept_all : (n : ℕ) (l : List Pending) (w : Work) → n ≤ length l → swept_in n l w ≡ swept n l w
-swept_all n l w h = rw (le-leb n (length l) h)
-
-capped-min : (timer t : ℕ) → capped_of timer t ≡ min (timer + t) 1048576
-capped-min timer t = dite (dec_lt (timer + t) 1048576)
-    (λ h. rw (lt-leb 1048576 (timer + t) h) (omega arith))
-    (λ n. rw (le-leb 1048576 (timer + t) (omega arith)) (omega arith))
+use Rattle.player.specs.Moves.{waiting_in, Whole, FirstDue, move_tests, PlayOutcome, start_tests, StartOutcome, fresh}
+use Rattle.player.specs.Steps.{Next, config_after, answer_after, Stepped, LowestOpen, FirstOpen}
 
 -- tests that hold, then others
-pub answered-after : (k l : List Test) {D : Fields → Type 0} {K : Type 0} {f : Fields} → Passes k → Answered l D K f → Answered (k ++ l) D K f
+answered-after : (k l : List Test) {D : Fields → Type 0} {K : Type 0} {f : Fields} → Passes k → Answered l D K f → Answered (k ++ l) D K f
 answered-after k l p (answers q d) = answers ((passes_append k l).1 (p, q)) d
 answered-after k l p (refuses {n = n} {p = i} e b kept) = refuses e ((fails-back k l n i p).1 b) kept
 
 module _ (m : Machine) (c : Config) (l : List Pending) where
-  -- refused, and nothing is touched
-  pub move-refused : (mv : Move) (a : Answer) (n : ℕ) → answer_fields a ≡ fields n 0 0 0 → Fails (move_tests m c l mv) n 0
-      → MoveOutcome m c l mv (refused_of c a)
-  move-refused mv a n e f = refuses e f (refl, swept_none l)
+  -- denied, and nothing is touched
+  move-denied : (mv : Move) (d : Denial) (n : ℕ) → answer_fields (Err d) ≡ fields n 0 0 0 → Fails (move_tests m c l mv) n 0 → Stepped m c l mv (Err d) l
+  move-denied mv d n e f = refuses e f (refl, refl)
 
-  -- a move by its own tests, after the others
-  pub move-decided : Valid m → Whole m c l → 240 ≤ length l → (mv : Move) (d : Decided) → MoveOutcome m c l mv d
-      → PlayOutcome m c l mv (answer_fields d.moved.answer) d.moved.config (swept_in d.n l d.work).list
-  move-decided v w r mv d o =
-      answered-after (after_table m (unless 15 (Whole m c l) ∷ unless 8 (240 ≤ length l) ∷ [])) (move_tests m c l mv)
-      (valid-passes m v (unless 15 (Whole m c l) ∷ unless 8 (240 ≤ length l) ∷ []) (w, (r, tt))) o
+  -- time passes
+  pub time-late : (t : ℕ) → (All (λ p. t ≤ p.left) (waiting_in c l) → ⊥) → Stepped m c l (Time t) (Err Untimely) l
+  time-late t n = move-denied (Time t) Untimely 11 refl (inl (n, refl, refl))
 
-  module _ (s : Seen) (look : SeenIn c l (Look s)) (whole : Whole m c l) where
-    is : s ≡ seen c l
-    is = seen-is c l whole.lent look
+  pub time-passed : (t : ℕ) → c.waiting ≤ length l → All (λ p. t ≤ p.left) (waiting_in c l) → {l' : List Pending} {timer : ℕ}
+      → l' ≡ aged_in c.waiting t l → timer ≡ min (c.timer + t) 1048576 → {d : Done} → (d.first ≡ 0) × (d.second ≡ 0)
+      → Stepped m c l (Time t) (Ok (record { state = c.state; inputs = c.inputs; waiting = c.waiting; timer = timer }, d)) l'
+  time-passed t lent a e f {d} z =
+      answers (a, tt) (record {
+        says = rw (z.0, z.1);
+        config = ap (λ (x : ℕ). record { state = c.state; inputs = c.inputs; waiting = c.waiting; timer = x }) f;
+        list = e ∙ rw (le-leb c.waiting (length l) lent);
+      })
 
-    pub time-decided : (t : ℕ) → t ≤ 4294967295 → MoveOutcome m c l (Time t) (time_of c t s)
-    time-decided t h =
-        let law = passes-soon c l whole.lent t h in
-        dite (dec_lt s.least t)
-        (λ late. rw (lt-leb t s.least late) (move-refused (Time t) Untimely 11 refl
-        (inl ((λ a. let k : t ≤ (seen c l).least = law.1 a in omega (arith, ap (λ (z : Seen). z.least) is)), refl, refl))))
-        (λ n. rw (le-leb t s.least (omega arith)) (answers (law.0 (omega (arith, ap (λ (z : Seen). z.least) is)), tt) (record {
-          says = refl;
-          config = rw (capped-min c.timer t);
-          list = ap (λ z. z.list) (swept_all c.waiting l (Age t) whole.lent) ∙ age-list c.waiting l t whole.lent;
-        })))
-
-    -- an output, where a record is due
-    module _ (d : Due c.waiting l (seen c l)) where
-      abbrev f : FirstDue (waiting_in c l)
-      f = first-due c l whole.lent d
-
-      abbrev w : ℕ
-      w = c.waiting
-
-      abbrev k : ℕ
-      k = (seen c l).due
-
-      it-is : s.first ≡ f.it
-      it-is = ap (λ (z : Seen). z.first) is ∙ d.it ∙ sym (get_or-take w l k blank d.inside)
-
-      closes : (swept_in w l (Close s.due (w - 1) blank)).list ≡ (f.before ++ f.after) ++ drop (w - 1) l
-      closes =
-          let one : suc (w - 1) ≡ w = omega (arith, d.inside) in
-          let z : (swept w l (Close k (w - 1) blank)).list ≡ take k l ++ (drop (suc k) (take w l) ++ drop (w - 1) l) =
-          subst (λ (n : ℕ). (swept n l (Close k (w - 1) blank)).list ≡ take k l ++ (drop (suc k) (take n l) ++ drop (w - 1) l)) one
-          (close-list l k (w - 1) blank (omega (arith, d.inside)) (omega (arith, d.inside, whole.lent))) in
-          let t : take k (take w l) ≡ take k l = take-take k w l (omega (arith, d.inside)) in
-          ap (λ (n : ℕ). (swept_in w l (Close n (w - 1) blank)).list) (ap (λ (z : Seen). z.due) is)
-          ∙ ap (λ z. z.list) (swept_all w l (Close k (w - 1) blank) whole.lent) ∙ z
-          ∙ rw t (sym (append_assoc (take k l) (drop (suc k) (take w l)) (drop (w - 1) l)))
-
-      issued : MoveOutcome m c l Output (output_of c s)
-      issued =
-          let z : s.least ≡ 0 = ap (λ (z : Seen). z.least) is ∙ due-least c l whole.lent d in
-          rw (eq-eqb s.least 0 z, lt-ltb 0 w (omega (arith, d.inside))) (answers (f, tt) (record {
-            first = f;
-            says = ap (λ (p : Pending). fields 0 p.step p.letter 0) it-is;
-            config = refl;
-            list = closes;
-          }))
-
-    pub output-decided : MoveOutcome m c l Output (output_of c s)
-    output-decided = ⊎_elim issued
-        (λ n. let z : s.least ≡ 0 → ⊥ = λ e. omega (arith, ap (λ (z : Seen). z.least) is, none-least c l whole.lent n) in
-        rw (ne_eqb s.least 0 z) (move-refused Output Untimely 11 refl (inl (none_first c l whole.lent n, refl, refl))))
-        (seen-due c l whole.lent)
-
-    -- whether a response is due
-    pub least-due : s.least ≡ 0 → All (λ p. 0 < p.left) (waiting_in c l) → ⊥
-    least-due z a =
-        let g : 1 ≤ (seen c l).least = (passes-soon c l whole.lent 1 (omega arith)).1 a in
-        omega (arith, ap (λ (x : Seen). x.least) is)
-
-    pub least-none : (s.least ≡ 0 → ⊥) → All (λ p. 0 < p.left) (waiting_in c l)
-    least-none n = (passes-soon c l whole.lent 1 (omega arith)).0 (omega (arith, n, ap (λ (x : Seen). x.least) is))
-
--- an input on a checked table
-module _ (t : Table) (v : Valid (machine_of t)) (c : Config) (letter : ℕ) (s : Seen) (i : ℕ)
-    (first : FirstOpen (rows t.cells t.count) c.state letter c.timer i) where
-  abbrev m : Machine
-  m = machine_of t
-
-  abbrev ts : List Transition
-  ts = m.transitions
-
-  long : length ts ≡ t.count
-  long = length-rows t.cells t.count
-
-  abbrev Is : ℕ → Type 0
-  Is j = Open 256 ts c.state letter c.timer j
-
-  -- an open transition is not below the first
-  lowest : (j : ℕ) → Is j → i ≤ j
-  lowest j o = dite (dec_lt j i) (λ h. absurd (first.lowest j h (record { leaves = o.leaves; asks = o.asks; fits = o.fits }))) (λ n. omega arith)
-
-  pub input-closed : t.count ≤ i → InputDecides m c letter s (refused_of c Closed)
-  input-closed h l look w r = move-refused m c l (Input letter) Closed 10 refl (inl (
-    (λ o. omega (arith, long, o.1.known, lowest o.0 o.1)),
+  -- a response is issued
+  pub output-none : All (λ p. 0 < p.left) (waiting_in c l) → Stepped m c l Output (Err Untimely) l
+  output-none a = move-denied Output Untimely 11 refl (inl (
+    (λ f.
+        let here : In f.it (waiting_in c l) = rw f.stands ((in-append f.it f.before (f.it ∷ f.after)).1 (inr (inl refl))) in
+        omega (arith, all_in a f.it here, f.due)),
     refl,
     refl,
   ))
 
-  module _ (h : i < t.count) where
+  module _ (lent : c.waiting ≤ length l) (i : ℕ) (d : DueAt (waiting_in c l) i) where
+    abbrev w : ℕ
+    w = c.waiting
+
+    inside : i < w
+    inside = omega (arith, d.inside, length-take w l)
+
+    abbrev first : FirstDue (waiting_in c l)
+    first = record {
+      before = take i (waiting_in c l);
+      it = get_or (waiting_in c l) i blank;
+      after = drop (suc i) (waiting_in c l);
+      stands = split_at (waiting_in c l) i blank d.inside;
+      due = d.now;
+      later = d.later;
+    }
+
+    closes : closed_in w i l ≡ (take i (waiting_in c l) ++ drop (suc i) (waiting_in c l)) ++ drop (w - 1) l
+    closes =
+        let t : take i (take w l) ≡ take i l = take-take i w l (omega (arith, inside)) in
+        rw (lt-ltb i w inside, le-leb w (length l) lent, t) (sym (append_assoc (take i l) (drop (suc i) (take w l)) (drop (w - 1) l)))
+
+    pub output-issued : {l' : List Pending} → l' ≡ closed_in w i l
+        → Stepped m c l Output (Ok (
+          record { state = c.state; inputs = c.inputs; waiting = w - 1; timer = c.timer },
+          record {
+            first = (get_or l i blank).step;
+            second = (get_or l i blank).letter;
+          },
+        )) l'
+    output-issued e = answers (first, tt) (record {
+      first = first;
+      says = ap (λ (p : Pending). fields 0 p.step p.letter 0) (sym (get_or-take w l i blank inside));
+      config = refl;
+      list = e ∙ closes;
+    })
+
+-- an input on a checked table
+module _ (m : Machine) (v : Valid m) (c : Config) (l : List Pending) (letter : ℕ) where
+  abbrev Is : ℕ → Type 0
+  Is j = Open 256 m.transitions c.state letter c.timer j
+
+  pub input-closed : FirstOpen m.transitions c.state letter c.timer None → Stepped m c l (Input letter) (Err Closed) l
+  input-closed f = move-denied m c l (Input letter) Closed 10 refl (inl (
+    (λ o. f o.0 o.1.known (record { leaves = o.1.leaves; asks = o.1.asks; fits = o.1.fits })),
+    refl,
+    refl,
+  ))
+
+  module _ (i : ℕ) (first : LowestOpen m.transitions c.state letter c.timer i) where
     found : Is i
-    found = let o = first.found (omega (arith, long)) in record { known = omega (arith, long); leaves = o.leaves; asks = o.asks; fits = o.fits }
+    found = let o = first.opened in record { known = first.known; leaves = o.leaves; asks = o.asks; fits = o.fits }
 
-    pub input-due : s.least ≡ 0 → InputDecides m c letter s (refused_of c Untimely)
-    input-due z l look w r = move-refused m c l (Input letter) Untimely 11 refl (inr ((i, found), inl (least-due m c l s look w z, refl, refl)))
+    lowest : (j : ℕ) → Is j → i ≤ j
+    lowest j o = dite (dec_lt j i) (λ h. absurd (first.lowest j h (record { leaves = o.leaves; asks = o.asks; fits = o.fits }))) (λ n. omega arith)
 
-    module _ (still : s.least ≡ 0 → ⊥) where
-      abbrev quiet : (l : List Pending) → SeenIn c l (Look s) → Whole m c l → All (λ p. 0 < p.left) (waiting_in c l)
-      quiet l look w = least-none m c l s look w still
+    pub input-due : (All (λ p. 0 < p.left) (waiting_in c l) → ⊥) → Stepped m c l (Input letter) (Err Untimely) l
+    input-due n = move-denied m c l (Input letter) Untimely 11 refl (inr ((i, found), inl (n, refl, refl)))
 
-      pub input-split : ((Splits m → ⊥) → ⊥) → InputDecides m c letter s (refused_of c Split)
-      input-split x l look w r = move-refused m c l (Input letter) Split 13 refl (inr ((i, found), inr (quiet l look w, inl (x, refl, refl))))
+    module _ (quiet : All (λ p. 0 < p.left) (waiting_in c l)) where
+      pub input-split : ((Splits m → ⊥) → ⊥) → Stepped m c l (Input letter) (Err Split) l
+      input-split x = move-denied m c l (Input letter) Split 13 refl (inr ((i, found), inr (quiet, inl (x, refl, refl))))
 
       module _ (one : Splits m → ⊥) where
-        pub input-spent : 512 ≤ c.inputs → InputDecides m c letter s (refused_of c Spent)
-        input-spent x l look w r =
-            move-refused m c l (Input letter) Spent 14 refl (inr ((i, found), inr (quiet l look w, inr (one, inl ((λ k. omega arith), refl, refl)))))
+        pub input-spent : 512 ≤ c.inputs → Stepped m c l (Input letter) (Err Spent) l
+        input-spent x = move-denied m c l (Input letter) Spent 14 refl (inr ((i, found), inr (quiet, inr (one, inl ((λ k. omega arith), refl, refl)))))
 
-        pub input-full : c.inputs < 512 → 240 ≤ c.waiting → InputDecides m c letter s (refused_of c Damaged)
-        input-full f x l look w r =
-            move-refused m c l (Input letter) Damaged 15 refl (inr (
-              (i, found),
-              inr (
-                quiet l look w,
-                inr (
-                  one,
-                  inr (
-                    f,
-                    inl (
-                      (λ k. omega arith),
-                      refl,
-                      refl,
-                    ),
-                  ),
-                ),
-              ),
-            ))
+        pub input-full : c.inputs < 512 → 240 ≤ c.waiting → Stepped m c l (Input letter) (Err Damaged) l
+        input-full f x = move-denied m c l (Input letter) Damaged 15 refl
+            (inr ((i, found), inr (quiet, inr (one, inr (f, inl ((λ k. omega arith), refl, refl))))))
 
-        module _ {row : Row} (read : row ≡ row_of t.cells i) where
-          pub row_is : said row ≡ at ts i
-          row_is = ap said read ∙ row-known t.cells t.count i (valid-count t v) h
+        module _ (rows : List Row) (held : transitions rows ≡ m.transitions) where
+          long : length m.transitions ≡ length rows
+          long = ap (λ (z : List Transition). length z) (sym held) ∙ length-rows rows (length rows)
 
-          pub row-soon : row.d ≤ 240
-          row-soon = omega (arith, ap (λ (z : Transition). z.d) row_is, (all-at none v.ranged i (omega (arith, long))).late)
+          pub row-inside : i < length rows
+          row-inside = omega (arith, long, first.known)
 
-          adds : (l : List Pending) → c.waiting < length l → (new : Pending)
-              → (swept_in (c.waiting + 1) l (Add c.waiting new)).list ≡ waiting_in c l ++ (new ∷ drop (suc c.waiting) l)
-          adds l k new =
-              rw (add-one c.waiting) (ap (λ z. z.list) (swept_all (suc c.waiting) l (Add c.waiting new) k) ∙ add-list l c.waiting new
-              ∙ set_split l c.waiting new k)
+          module _ {row : Row} (read : row ≡ row_of rows i) where
+            row-is : said row ≡ at m.transitions i
+            row-is = ap said read ∙ row-known rows (length rows) i row-inside ∙ ap (λ (z : List Transition). at z i) held
 
-          pub input-taken : c.inputs < 512 → c.waiting < 240 → InputDecides m c letter s (input_of c i row)
-          input-taken f x l look w r =
-              let new : Pending = record { step = c.inputs + 1; letter = row.output; left = row.d * 256 } in
-              answers ((i, found), (quiet l look w, (one, (f, (x, tt))))) (record {
-                i = i;
-                opened = found;
-                lowest = lowest;
-                says = refl;
-                config = ap (λ (z : Transition). record { state = z.to; inputs = c.inputs + 1; waiting = c.waiting + 1; timer = 0 }) row_is
-                    ∙ rw (add-one c.inputs, add-one c.waiting);
-                list = adds l (omega arith) new
-                    ∙ ap (λ (z : Transition). waiting_in c l ++ (record { step = c.inputs + 1; letter = z.output; left = z.d * 256 } ∷ drop (suc
-                    c.waiting) l)) row_is
-                    ∙ rw (add-one c.inputs);
-              })
+            pub input-taken : c.inputs < 512 → c.waiting < 240 → 240 ≤ length l → {d : ℕ} → d ≡ row.d → {l' : List Pending}
+                → l' ≡ set l c.waiting (record { step = c.inputs + 1; letter = row.output; left = d * 256 })
+                → Stepped m c l (Input letter) (Ok (
+                  record { state = row.to; inputs = c.inputs + 1; waiting = c.waiting + 1; timer = 0 },
+                  record {
+                    first = i;
+                    second = 0;
+                  },
+                )) l'
+            input-taken f x r {d} delay e = answers ((i, found), (quiet, (one, (f, (x, tt))))) (record {
+              i = i;
+              opened = found;
+              lowest = lowest;
+              says = refl;
+              config = ap (λ (z : Transition). record { state = z.to; inputs = c.inputs + 1; waiting = c.waiting + 1; timer = 0 }) row-is
+                  ∙ rw (add-one c.inputs, add-one c.waiting);
+              list = e ∙ set_split l c.waiting (record { step = c.inputs + 1; letter = row.output; left = d * 256 }) (omega arith)
+                  ∙ ap (λ (k : ℕ). waiting_in c l ++ (record { step = c.inputs + 1; letter = row.output; left = k * 256 } ∷ drop (suc c.waiting) l)) delay
+                  ∙ ap (λ (z : Transition). waiting_in c l ++ (record { step = c.inputs + 1; letter = z.output; left = z.d * 256 } ∷ drop (suc
+                  c.waiting) l)) row-is
+                  ∙ rw (add-one c.inputs);
+            })
+
+-- the tests before a move
+module _ (m : Machine) (c : Config) (l : List Pending) (mv : Move) where
+  abbrev more : List Test
+  more = unless 15 (Whole m c l) ∷ unless 8 (240 ≤ length l) ∷ move_tests m c l mv
+
+  pub table-refused : (r : Refusal) → CheckOutcome m (checked_fields (Err r)) → PlayOutcome m c l mv (refused_fields r) c l
+  table-refused r x = refuses refl (refused-fails m more refl x) (refl, refl)
+
+  module _ (v : Valid m) where
+    pub damaged : (Whole m c l → ⊥) → PlayOutcome m c l mv (fields 15 0 0 0) c l
+    damaged n = refuses refl ((valid-fails m v more 15 0).1 (inl (n, refl, refl))) (refl, refl)
+
+    module _ (whole : Whole m c l) where
+      pub no_room : (240 ≤ length l → ⊥) → PlayOutcome m c l mv (fields 8 0 0 0) c l
+      no_room n = refuses refl ((valid-fails m v more 8 0).1 (inr (whole, inl (n, refl, refl)))) (refl, refl)
+
+      pub stepped : 240 ≤ length l → (r : Next) {l' : List Pending} → Stepped m c l mv r l'
+          → PlayOutcome m c l mv (answer_fields (answer_after r)) (config_after c r) l'
+      stepped room r o =
+          let before = unless 15 (Whole m c l) ∷ unless 8 (240 ≤ length l) ∷ [] in
+          answered-after (after_table m before) (move_tests m c l mv) (valid-passes m v before (whole, (room, tt))) o
+
+-- a configuration of zeros
+abbrev pub Blank : Config → Type 0
+Blank k = (k.state ≡ 0) × ((k.inputs ≡ 0) × ((k.waiting ≡ 0) × (k.timer ≡ 0)))
+
+pub blank-fresh : (k : Config) → Blank k → k ≡ fresh 0
+blank-fresh k b = λ i. record { state = b.0 i; inputs = b.1.0 i; waiting = b.1.1.0 i; timer = b.1.1.1 i }
+
+-- the start
+module _ (m : Machine) (lent : ℕ) where
+  pub start-refused : (r : Refusal) → CheckOutcome m (checked_fields (Err r)) → StartOutcome m lent (refused_fields r) (fresh 0)
+  start-refused r x = refuses refl (refused-fails m (start_tests m lent) refl x) refl
+
+  module _ (v : Valid m) where
+    pub start-room : (240 ≤ lent → ⊥) → StartOutcome m lent (fields 8 0 0 0) (fresh 0)
+    start-room n = refuses refl ((valid-fails m v (start_tests m lent) 8 0).1 (inl (n, refl, refl))) refl
+
+    module _ (room : 240 ≤ lent) where
+      pub start-split : ((Splits m → ⊥) → ⊥) → StartOutcome m lent (fields 13 0 0 0) (fresh 0)
+      start-split n = refuses refl ((valid-fails m v (start_tests m lent) 13 0).1 (inr (room, inl (n, refl, refl)))) refl
+
+      pub started : (Splits m → ⊥) → (k : Config) (d : Done) → Blank k → (d.first ≡ 0) × (d.second ≡ 0)
+          → StartOutcome m lent (fields 0 d.first d.second 0) (record { state = m.initial; inputs = k.inputs; waiting = k.waiting; timer = k.timer })
+      started n k d b z = answers (valid-passes m v (start_tests m lent) (room, (n, tt))) (rw (z.0, z.1), rw (b.1.0, b.1.1.0, b.1.1.1))

@@ -1,9 +1,10 @@
 -- Two outcomes that a call's contract allows are equal: answer, configuration and list.
 use mathlib.Core.Path.{◌≡◌, refl, sym, ap, ◌∙◌}
 use mathlib.Core.List.{List, [], ◌∷◌, ◌++◌}
-use Prim.Native.Nat.{ℕ, suc, ◌*◌, ◌-◌, ◌<◌}
+use Prim.Native.Nat.{ℕ, zero, suc, ◌*◌, ◌-◌, ◌<◌}
 use native.Mathlib.Omega.{arith}
 use lib.ListN.{get_or, drop}
+use Rattle.std.specs.Prelude.{Ok, Err}
 use Rattle.model.specs.Answers.{Fields, fields}
 use Rattle.model.specs.Lists.{All, all_cons}
 use Rattle.model.specs.Table.{Machine, at}
@@ -13,35 +14,39 @@ use Rattle.records.specs.declared.Pending.{Pending}
 use Rattle.player.specs.declared.Config.{Config}
 use Rattle.player.specs.declared.Move.{Move}
 use Rattle.player.specs.declared.Move.TheVariants.{Time, Input, Output}
-use Rattle.player.specs.declared.Answer.{Answer}
-use Rattle.player.specs.declared.Answer.TheVariants.{Done, Refused, Closed, Untimely, Split, Spent, Damaged}
-use Rattle.player.specs.Answer.{answer_fields}
+use Rattle.player.specs.declared.Denial.{Denial}
+use Rattle.player.specs.declared.Denial.TheVariants.{Refused, Closed, Untimely, Split, Spent, Damaged}
+use Rattle.player.specs.Answer.{Answer, answer_fields}
 use Rattle.player.specs.Moves.{waiting_in, InputDone, OutputDone, MoveDone, PlayOutcome, StartOutcome}
 
 -- the answer of a number and two values
-made : ℕ → ℕ → ℕ → Answer
-made n a b =
-    get_or (Done a b ∷ Refused (Cut a) ∷ Refused (Misplaced a) ∷ Refused (Full a) ∷ Refused (OutOfRange a) ∷ Refused (Repeated a) ∷ Refused NoTrace
+denied : ℕ → ℕ → Denial
+denied n a =
+    get_or (Damaged ∷ Refused (Cut a) ∷ Refused (Misplaced a) ∷ Refused (Full a) ∷ Refused (OutOfRange a) ∷ Refused (Repeated a) ∷ Refused NoTrace
     ∷ Refused Uneven ∷ Refused NoRoom ∷ Refused (Early a) ∷ Closed ∷ Untimely ∷ Refused (Late a) ∷ Split ∷ Spent ∷ Damaged ∷ []) n Damaged
 
+made : ℕ → ℕ → ℕ → Answer
+made zero a b = Ok (record { first = a; second = b })
+made (suc n) a b = Err (denied (suc n) a)
+
 made-is : (a : Answer) → made (answer_fields a).status (answer_fields a).first (answer_fields a).second ≡ a
-unfolding made
-made-is (Done a b) = refl
-made-is (Refused (Cut p)) = refl
-made-is (Refused (Misplaced p)) = refl
-made-is (Refused (Full p)) = refl
-made-is (Refused (OutOfRange p)) = refl
-made-is (Refused (Repeated p)) = refl
-made-is (Refused NoTrace) = refl
-made-is (Refused Uneven) = refl
-made-is (Refused NoRoom) = refl
-made-is (Refused (Early p)) = refl
-made-is (Refused (Late p)) = refl
-made-is Closed = refl
-made-is Untimely = refl
-made-is Split = refl
-made-is Spent = refl
-made-is Damaged = refl
+unfolding made denied
+made-is (Ok d) = refl
+made-is (Err (Refused (Cut p))) = refl
+made-is (Err (Refused (Misplaced p))) = refl
+made-is (Err (Refused (Full p))) = refl
+made-is (Err (Refused (OutOfRange p))) = refl
+made-is (Err (Refused (Repeated p))) = refl
+made-is (Err (Refused NoTrace)) = refl
+made-is (Err (Refused Uneven)) = refl
+made-is (Err (Refused NoRoom)) = refl
+made-is (Err (Refused (Early p))) = refl
+made-is (Err (Refused (Late p))) = refl
+made-is (Err Closed) = refl
+made-is (Err Untimely) = refl
+made-is (Err Split) = refl
+made-is (Err Spent) = refl
+made-is (Err Damaged) = refl
 
 -- equal fields: equal answers
 pub answer-only : (a b : Answer) → answer_fields a ≡ answer_fields b → a ≡ b

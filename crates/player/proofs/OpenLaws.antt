@@ -1,72 +1,78 @@
--- The lowest open transition, the split of a checked table, and the start.
-use mathlib.Core.Path.{◌≡◌, refl, ap, ◌∙◌}
-use mathlib.Core.Bool.{Bool, true, false}
+-- The lowest open transition among rows, and the split of a checked table.
+use mathlib.Core.Path.{◌≡◌, ap, ◌∙◌, sym, subst}
+use mathlib.Core.Bool.{Bool, true, false, not}
 use mathlib.Core.List.{List}
-use Prim.Native.Nat.{ℕ, ◌+◌, ◌≤◌, ◌<◌}
+use Prim.Native.Nat.{ℕ, ◌≤◌, ◌<◌}
 use native.Mathlib.Omega.{arith}
-use borrow.Author.Count.{below_more}
+use lib.ListN.{length, get_or}
+use Rattle.std.specs.Prelude.{Option, Some, None, is_some}
 use Rattle.model.specs.Answers.{Tells}
-use Rattle.model.specs.Table.{Transition, Valid, at}
+use Rattle.model.specs.Lists.{All}
+use Rattle.model.specs.Table.{Transition, Machine, InRange, Valid, at}
 use Rattle.model.specs.Verdict.{Splits}
 use Rattle.model.proofs.Split.{split-law}
 use Rattle.table.specs.declared.Row.{Row}
 use Rattle.table.specs.declared.Table.{Table}
-use Rattle.table.specs.Rows.{rows, row_of, said, machine_of}
-use Rattle.table.proofs.RowLaws.{length-rows, row-known}
-use Rattle.table.proofs.FitLaws.{valid-sound}
-use Rattle.table.proofs.TestLaws.{valid-count}
+use Rattle.table.specs.Rows.{transitions, blank, said, machine_of}
+use Rattle.table.proofs.FitLaws.{ranged-wider}
+use Rattle.table.proofs.RowLaws.{length-rows, row-known, row_near}
 use Rattle.reach.specs.Reach.{Admits, Reach}
-use Rattle.split_pair.specs.declared.Pair.TheVariants.{At, Nothing}
-use Rattle.split_pair.specs.Split.{SplitOutcome}
+use Rattle.split_pair.specs.Split.{SplitOutcome, SplitFound}
 use Rattle.split_pair.proofs.SplitLaws.{split-found}
-use Rattle.replay.specs.declared.Guard.{Guard}
-use Rattle.replay.specs.declared.Guard.TheVariants.{Inside}
-use Rattle.replay.specs.Guards.{Meets}
-use Rattle.replay.proofs.GuardLaws.{guard-only}
-use Rattle.player.specs.declared.Config.{Config}
-use Rattle.player.specs.Decide.{Opens, FirstOpen, Fits15}
+use Rattle.player.specs.Steps.{Opens, FirstOpen}
 
--- a guard that is met inside opens, and no other
-pub opens-inside : {t : Transition} {state letter timer : ℕ} {g : Guard} → t.from ≡ state → t.input ≡ letter → g ≡ Inside → Meets g 256 t timer
-    → Opens t state letter timer
-opens-inside e f i m = record { leaves = e; asks = f; fits = rw i at m }
+-- what the search through the rows tells
+module _ (l : List Row) (state letter timer : ℕ) where
+  abbrev pub Open : ℕ → Row → Type 0
+  Open i d = Opens (said (get_or l i d)) state letter timer
 
-pub shut-outside : {t : Transition} {state letter timer : ℕ} (g : Guard) → (g ≡ Inside → ⊥) → Meets g 256 t timer → Opens t state letter timer → ⊥
-shut-outside {t} {timer = timer} g n m o = n (guard-only 256 t timer g Inside m o.fits)
+  abbrev pub OpenAt : Option ℕ → Type 0
+  OpenAt (Some i) = (i < length l) × Open i blank × ((j : ℕ) (d : Row) → j < i → Open j d → ⊥)
+  OpenAt None = (j : ℕ) (d : Row) → j < length l → Open j d → ⊥
 
--- none of the first i is open
-module _ (c : List ℕ) (n state letter timer : ℕ) where
-  abbrev pub NoneBefore : ℕ → Type 0
-  NoneBefore i = (j : ℕ) → j < i → Opens (at (rows c n) j) state letter timer → ⊥
+  long : length (transitions l) ≡ length l
+  long = length-rows l (length l)
 
-  module _ (few : n ≤ 256) (i : ℕ) (h : i < n) {r : Row} (e : r ≡ row_of c i) (before : NoneBefore i) where
-    here : said r ≡ at (rows c n) i
-    here = ap said e ∙ row-known c n i few h
+  row-is : (i : ℕ) → i < length l → said (get_or l i blank) ≡ at (transitions l) i
+  row-is i h = ap said (sym (row_near l i)) ∙ row-known l (length l) i h
 
-    pub open-here : Opens (said r) state letter timer → FirstOpen (rows c n) state letter timer i
-    open-here o = record { most = omega (arith, length-rows c n); found = λ k. rw (← here) o; lowest = before }
-
-    pub open_next : (Opens (said r) state letter timer → ⊥) → NoneBefore (i + 1)
-    open_next o = below_more (λ j. Opens (at (rows c n) j) state letter timer → ⊥) i before (λ x. o (rw here x))
-
-  pub open_none : (i : ℕ) → i ≤ n → n ≤ i → NoneBefore i → FirstOpen (rows c n) state letter timer i
-  open_none i a b before = record { most = omega (arith, length-rows c n); found = λ k. absurd (omega (arith, length-rows c n)); lowest = before }
+  pub first-open : (r : Option ℕ) → OpenAt r → FirstOpen (transitions l) state letter timer r
+  first-open (Some i) p = record {
+    known = omega (arith, long, p.0);
+    opened = rw (← row-is i p.0) p.1;
+    lowest = λ j h o. p.2 j blank h (rw (row-is j (omega (arith, h, p.0))) o);
+  }
+  first-open None p = λ j h o. let k : j < length l = omega (arith, long, h) in p j blank k (rw (row-is j k) o)
 
 -- the search for a split pair answers whether a checked table is split
-module _ (t : Table) (v : Valid (machine_of t)) where
-  pub admits : Admits t.cells t.count t.initial
-  admits = record { sound = valid-sound t (valid-count t v) v; inside = omega (arith, v.starts, v.most) }
+module _ (t : Table) (v : Valid (machine_of t)) (l : List Row) (held : transitions l ≡ (machine_of t).transitions) where
+  abbrev m : Machine
+  m = machine_of t
 
-  module _ {dist via : List ℕ} (reach : Reach (rows t.cells t.count) t.initial dist via) where
-    pub pair-splits : (i j : ℕ) → SplitOutcome t.cells t.count dist (At i j) → Splits (machine_of t)
-    pair-splits i j o = (split-law (machine_of t) v).1 (i, j, (split-found _ _ _ (At i j) o (valid-count t v) t.states t.initial reach.tells).pair)
+  few : length l ≤ 256
+  few = omega (arith, length-rows l (length l), ap (λ (z : List Transition). length z) held, v.few)
 
-    pub none-splits : SplitOutcome t.cells t.count dist Nothing → Splits (machine_of t) → ⊥
-    none-splits o s =
-        let p = (split-law (machine_of t) v).0 s in
-        split-found _ _ _ Nothing o (valid-count t v) t.states t.initial reach.tells p.0 p.1 p.2
+  pub admits : Admits l (length l) t.initial
+  admits = record {
+    sound = record { few = few; ranged = subst (λ (z : List Transition). All (InRange 32) z) (sym held) (ranged-wider v.most v.ranged) };
+    inside = omega (arith, v.starts, v.most);
+  }
 
--- all ranges hold, and the records are as they were seen
-pub whole-told : {c : Config} {states len : ℕ} (fine : Bool) → Fits15 c states len → Tells fine (Fits15 c states len × (fine ≡ true))
-whole-told true f = (f, refl)
-whole-told false f = λ p. let o : ◌≡◌ {A = ℕ} 0 1 = cc in omega arith
+  module _ {dist via : List ℕ} (reach : Reach (transitions l) t.initial dist via) where
+    found : (r : Option (ℕ × ℕ)) → SplitOutcome l (length l) dist r → SplitFound m r
+    found r o =
+        subst (λ (z : List Transition). SplitFound (record { states = t.states; initial = t.initial; transitions = z }) r) held
+        (split-found l (length l) dist r o few t.states t.initial reach.tells)
+
+    pub pair-splits : (r : ℕ × ℕ) → SplitOutcome l (length l) dist (Some r) → Splits m
+    pair-splits (i, j) o = (split-law m v).1 (i, j, (found (Some (i, j)) o).pair)
+
+    pub none-splits : SplitOutcome l (length l) dist None → Splits m → ⊥
+    none-splits o s = let p = (split-law m v).0 s in found None o p.0 p.1 p.2
+
+    -- as the search answers
+    pub split-told : (r : Option (ℕ × ℕ)) (b : Bool) → SplitOutcome l (length l) dist r → is_some r ≡ not b → Tells b (Splits m → ⊥)
+    split-told None true o e = none-splits o
+    split-told None false o e = let z : ◌≡◌ {A = ℕ} 0 1 = cc in absurd (omega arith)
+    split-told (Some r) true o e = let z : ◌≡◌ {A = ℕ} 0 1 = cc in absurd (omega arith)
+    split-told (Some r) false o e = λ n. n (pair-splits r o)

@@ -1,4 +1,4 @@
--- What a reader must believe: Answer, Moves. Decide is how the moves are decided.
+-- What a reader must believe: Answer, Moves. Steps is what the parts of a move ensure.
 pub mod Answer
 pub mod Moves
-pub mod Decide
+pub mod Steps

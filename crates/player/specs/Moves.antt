@@ -1,4 +1,4 @@
--- 02, R-5: what each move tests, and what it hands back.
+-- What each move tests, and what it hands back.
 use Rattle.std.specs.Prelude.{◌≡◌, List, [], ◌∷◌, ◌++◌, map, ℕ, suc, ◌+◌, ◌*◌, ◌-◌, ◌≤◌, ◌<◌, min, length, take, drop}
 use Rattle.model.specs.Answers.{Fields, fields}
 use Rattle.model.specs.Lists.{All, Sorted}
@@ -6,23 +6,18 @@ use Rattle.model.specs.Table.{Machine, at}
 use Rattle.model.specs.Verdict.{Splits}
 use Rattle.table.specs.Tests.{Test, unless, Answered, after_table}
 use Rattle.records.specs.declared.Pending.{Pending}
+use Rattle.records.specs.Record.{Sane}
 use Rattle.playing.specs.Runs.{Open}
 use Rattle.player.specs.declared.Config.{Config}
 use Rattle.player.specs.declared.Move.{Move}
 use Rattle.player.specs.declared.Move.TheVariants.{Time, Input, Output}
 
--- "The waiting responses stand in a lent list of records": the first of them
+-- the waiting responses are the first records of a lent list
 abbrev pub waiting_in : Config → List Pending → List Pending
 waiting_in c l = take c.waiting l
 
--- a record's step "within the inputs so far", from 1, its time left at most 240 ticks
-pub record Sane (inputs : ℕ) (p : Pending) : Type 0 where
-  pub some : 1 ≤ p.step
-  pub most : p.step ≤ inputs
-  pub soon : p.left ≤ 61440
-
--- "a damaged configuration (state not in the table, timer above 4,096 ticks, over 512 inputs, more waiting than 240 or than lent, steps not
--- rising within the inputs so far, time left above 240 ticks)": none of this
+-- not damaged: the state in the table, the timer at most 4,096 ticks, at most 512 inputs, no more waiting than 240 or than lent, steps that rise
+-- within the inputs so far, no time left above 240 ticks
 pub record Whole (m : Machine) (c : Config) (l : List Pending) : Type 0 where
   pub state : c.state < m.states
   pub timer : c.timer ≤ 1048576
@@ -32,7 +27,7 @@ pub record Whole (m : Machine) (c : Config) (l : List Pending) : Type 0 where
   pub rises : Sorted ◌<◌ (map (λ p. p.step) (waiting_in c l))
   pub sane : All (Sane c.inputs) (waiting_in c l)
 
--- "an output (the lowest step now due)": the first record whose time left is 0
+-- an output issues the lowest step now due: the first record whose time left is 0
 pub record FirstDue (w : List Pending) : Type 0 where
   pub before : List Pending
   pub it : Pending
@@ -55,7 +50,7 @@ move_tests m c l Output = unless 11 (FirstDue (waiting_in c l)) ∷ []
 abbrev pub play_tests : Machine → Config → List Pending → Move → List Test
 play_tests m c l mv = after_table m (unless 15 (Whole m c l) ∷ unless 8 (240 ≤ length l) ∷ move_tests m c l mv)
 
--- time t passes: "the timer stops counting at 4,096 ticks"; "places beyond the waiting ones keep what they held"
+-- time t passes: the timer stops at 4,096 ticks, and records beyond those that wait are as they were
 pub record TimeDone (c : Config) (l : List Pending) (t : ℕ) (f : Fields) (c' : Config) (l' : List Pending) : Type 0 where
   pub says : f ≡ fields 0 0 0 0
   pub config : c' ≡ record { state = c.state; inputs = c.inputs; waiting = c.waiting; timer = min (c.timer + t) 1048576 }

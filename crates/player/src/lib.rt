@@ -1,20 +1,22 @@
 #![tactic(auto)]
 // The bench player: a configuration by value, its waiting responses in a lent list of records, and the moves.
-ghost use Rattle.std.specs.Prelude.{◌≡◌, true, ◌≤◌, ◌<◌};
+ghost use Rattle.std.specs.Prelude.{◌≡◌, Err, ◌≤◌, length};
 ghost use Rattle.model.specs.Answers.{Tells};
-ghost use Rattle.model.specs.Table.{Valid};
-ghost use Rattle.table.specs.Rows.{table_in, machine_of};
+ghost use Rattle.model.specs.Table.{Machine, Valid};
+ghost use Rattle.table.specs.Rows.{machine_of};
+ghost use Rattle.player.specs.declared.Denial.TheVariants.{Refused};
+ghost use Rattle.player.specs.declared.Move.TheVariants.{Time, Input, Output};
 ghost use Rattle.player.specs.Answer.{answer_fields};
-ghost use Rattle.player.specs.Moves.{StartOutcome, PlayOutcome};
-ghost use Rattle.player.specs.Decide.{Fits15, look_of, refused_of, capped_of, time_of, input_of, output_of, InputDecides, MoveDecides, Decides};
+ghost use Rattle.player.specs.Moves.{fresh, Whole, StartOutcome, PlayOutcome};
+ghost use Rattle.player.specs.Steps.{config_after, answer_after, Stepped};
 
-use records::{Pending, Seen, Work};
-use table::{Cells, Checked, Refusal, Row};
+use records::Pending;
+use table::{Refusal, Table};
 
 mod open;
 
 // A configuration: the state, the inputs so far, the responses that wait, the time since the last input in 1/256 tick.
-#[derive(Clone, Copy)]
+#[derive(Clone, Copy, PartialEq, Eq, Default)]
 pub struct Config {
     pub state: u16,
     pub inputs: u16,
@@ -29,10 +31,16 @@ pub enum Move {
     Output,
 }
 
-// Done, with an input's transition or an output's step and letter; or a refusal.
-#[derive(Clone, Copy)]
-pub enum Answer {
-    Done(u16, u16),
+// What an accepted move tells: an input's transition, or an output's step and letter.
+#[derive(Clone, Copy, PartialEq, Eq, Default)]
+pub struct Done {
+    pub first: u16,
+    pub second: u16,
+}
+
+// Why a move is not made: as other calls refuse, or for a reason of the player's own.
+#[derive(Clone, Copy, PartialEq, Eq)]
+pub enum Denial {
     Refused(Refusal),
     Closed,
     Untimely,
@@ -41,357 +49,221 @@ pub enum Answer {
     Damaged,
 }
 
+pub type Answer = Result<Done, Denial>;
+
+// What a move comes to: the next configuration with what is told of it.
+type Next = Result<(Config, Done), Denial>;
+
+impl From<Refusal> for Denial {
+    ghost from_gives = { λ r d. d ≡ Refused r };
+
+    fn from(r: Refusal) -> Denial {
+        Denial::Refused(r)
+    }
+}
+
+// A denial's number.
+impl From<Denial> for u16 {
+    ghost from_gives = { λ d n. n ≡ (answer_fields (Err d)).status };
+
+    fn from(d: Denial) -> u16 {
+        match d {
+            Denial::Refused(r) => u16::from(r),
+            Denial::Closed => 10,
+            Denial::Untimely => 11,
+            Denial::Split => 13,
+            Denial::Spent => 14,
+            Denial::Damaged => 15,
+        }
+    }
+}
+
 // The next configuration, with the answer.
+// A denied move hands back the configuration that it was given: no Result of both.
 #[derive(Clone, Copy)]
 pub struct Moved {
     pub config: Config,
     pub answer: Answer,
 }
 
+impl Moved {
+    // What a move comes to; on a denial the configuration c is handed back.
+    fn after(c: Config, next: Next) -> Moved
+        ensures config { result.config ≡ config_after c next }
+        ensures answer { result.answer ≡ answer_after next }
+    {
+        match next {
+            Ok((config, done)) => Moved {
+                config,
+                answer: Ok(done),
+            },
+            Err(denial) => Moved {
+                config: c,
+                answer: Err(denial),
+            },
+        }
+    }
+}
+
 // What a move hands back with a list by value.
+// The list comes back denied or not: no Result of it.
 #[derive(Clone, Copy)]
 pub struct Held {
     pub moved: Moved,
     pub list: [Pending; 240],
 }
 
-// A sweep over the first n records.
-#[derive(Clone, Copy)]
-pub struct Plan {
-    pub n: usize,
-    pub work: Work,
-}
-
-// What a move comes to: what is handed back, and the sweep that the list goes through.
-#[derive(Clone, Copy)]
-pub struct Decided {
-    pub moved: Moved,
-    pub n: usize,
-    pub work: Work,
-}
-
-// The number of an answer.
-pub fn number(a: Answer) -> u16
-    ensures { result ≡ (answer_fields a).status }
-{
-    match a {
-        Answer::Done(_, _) => 0,
-        Answer::Refused(r) => table::number(r),
-        Answer::Closed => 10,
-        Answer::Untimely => 11,
-        Answer::Split => 13,
-        Answer::Spent => 14,
-        Answer::Damaged => 15,
-    }
-}
-
-// The timer stops counting at 4,096 ticks.
-fn capped(timer: u32, t: u32) -> u32
-    ensures { result ≡ capped_of timer t }
-{
-    if 1048576 <= timer {
-        return 1048576;
-    }
-    if 1048576 - timer <= t {
-        return 1048576;
-    }
-    timer + t
-}
-
 impl Config {
-    fn refused(self, answer: Answer) -> Decided
-        ensures { result ≡ refused_of self answer }
+    // Not damaged: the numbers within their ranges, and the records in order.
+    fn whole(self, t: &Table, list: &[Pending]) -> bool
+        ensures { Tells result (Whole (machine_of t.now) self list.now) }
     {
-        Decided {
-            moved: Moved {
-                config: self,
-                answer: answer,
-            },
-            n: 0,
-            work: Work::Age(0),
-        }
+        let n = usize::from(self.waiting);
+        self.state < t.states
+            && self.timer <= 1048576
+            && self.inputs <= 512
+            && self.waiting <= 240
+            && n <= list.len()
+            && records::in_order(&list[..n], self.inputs)
     }
 
-    // What is to be looked at before a move.
-    fn look(self) -> Plan
-        ensures { result ≡ look_of self }
+    // Time t passes, at most to the next due response; the timer stops counting at 4,096 ticks.
+    fn time(mut self, list: &mut [Pending], parts: u32) -> Next
+        requires { self.waiting ≤ length list.old }
+        ensures { (m : Machine) → Stepped m self list.old (Time parts) result list.new }
     {
-        let first = Pending {
-            step: 0,
-            letter: 0,
-            left: 0,
+        let n = usize::from(self.waiting);
+        if !records::none_before(&list[..n], parts) {
+            return Err(Denial::Untimely);
+        }
+        records::age(list, n, parts);
+        self.timer = self.timer.saturating_add(parts).min(1048576);
+        Ok((self, Done::default()))
+    }
+
+    // An open transition takes the input, and its response waits: none is due, the table is not split, at most 512 inputs, at most 240 that wait.
+    fn input(mut self, t: &Table, list: &mut [Pending], letter: u16) -> Next
+        requires valid { Valid (machine_of t.now) }
+        requires whole { Whole (machine_of t.now) self list.old }
+        requires room { 240 ≤ length list.old }
+        ensures { Stepped (machine_of t.now) self list.old (Input letter) result list.new }
+    {
+        let n = usize::from(self.waiting);
+        let rows = t.rows();
+        let Some(i) = open::first_open(rows, self.state, letter, self.timer) else {
+            return Err(Denial::Closed);
         };
-        let seen = Seen {
-            fine: true,
-            above: self.inputs,
-            least: 4294967295,
-            due: 0,
-            first: first,
-        };
-        Plan {
-            n: self.waiting as usize,
-            work: Work::Look(seen),
+        if !records::none_before(&list[..n], 1) {
+            return Err(Denial::Untimely);
         }
-    }
-
-    // Not damaged: the numbers within their ranges, and the records as they were seen.
-    fn whole(self, states: u16, len: usize, fine: bool) -> bool
-        ensures { Tells result (Fits15 self states len × (fine ≡ true)) }
-    {
-        if states <= self.state {
-            return false;
+        if !open::unsplit(t) {
+            return Err(Denial::Split);
         }
-        if 1048576 < self.timer {
-            return false;
+        let step = self.inputs + 1;
+        if 512 < step {
+            return Err(Denial::Spent);
         }
-        if 512 < self.inputs {
-            return false;
+        if 240 <= self.waiting {
+            return Err(Denial::Damaged);
         }
-        if 240 < self.waiting {
-            return false;
-        }
-        if len < self.waiting as usize {
-            return false;
-        }
-        fine
-    }
-
-    // Time t passes, at most to the next due response.
-    fn time(mut self, t: u32, s: Seen) -> Decided
-        ensures { (result ≡ time_of self t s) × (t ≤ 4294967295) }
-    {
-        if s.least < t {
-            return self.refused(Answer::Untimely);
-        }
-        let n = self.waiting as usize;
-        let timer = capped(self.timer, t);
-        self.timer = timer;
-        Decided {
-            moved: Moved {
-                config: self,
-                answer: Answer::Done(0, 0),
-            },
-            n: n,
-            work: Work::Age(t),
-        }
-    }
-
-    // Transition i, which is r, takes the input; its response waits.
-    fn input(mut self, i: usize, r: Row) -> Decided
-        requires { (i < 256) × (self.inputs < 512) × (self.waiting < 240) × (r.d ≤ 240) }
-        ensures { result ≡ input_of self i r }
-    {
-        let at = self.waiting as usize;
-        let inputs = self.inputs + 1;
-        let new = Pending {
-            step: inputs,
-            letter: r.output,
-            left: (r.d as u32) * 256,
-        };
+        let r = table::row_of(rows, i);
         self.state = r.to;
-        self.inputs = inputs;
-        self.waiting = self.waiting + 1;
+        self.inputs = step;
+        self.waiting += 1;
         self.timer = 0;
-        Decided {
-            moved: Moved {
-                config: self,
-                answer: Answer::Done(i as u16, 0),
+        list[n] = Pending {
+            step,
+            letter: r.output,
+            left: u32::from(r.d) * 256,
+        };
+        Ok((
+            self,
+            Done {
+                // Nothing is cut off: that is proved, and TryFrom would ask what to do if it were.
+                first: i as u16,
+                second: 0,
             },
-            n: at + 1,
-            work: Work::Add(at, new),
-        }
+        ))
     }
 
     // The lowest step now due is issued.
-    fn output(mut self, s: Seen) -> Decided
-        ensures { result ≡ output_of self s }
+    fn output(mut self, list: &mut [Pending]) -> Next
+        requires { self.waiting ≤ length list.old }
+        ensures { (m : Machine) → Stepped m self list.old Output result list.new }
     {
-        if 0 < s.least {
-            return self.refused(Answer::Untimely);
-        }
-        let waiting = self.waiting;
-        if waiting == 0 {
-            return self.refused(Answer::Untimely);
-        }
-        let n = waiting as usize;
-        self.waiting = waiting - 1;
-        let first = s.first;
-        let blank = Pending {
-            step: 0,
-            letter: 0,
-            left: 0,
+        let n = usize::from(self.waiting);
+        let Some(at) = records::first_due(&list[..n]) else {
+            return Err(Denial::Untimely);
         };
-        Decided {
-            moved: Moved {
-                config: self,
-                answer: Answer::Done(first.step, first.letter),
+        let due = list[at];
+        records::close(list, n, at);
+        self.waiting -= 1;
+        Ok((
+            self,
+            Done {
+                first: due.step,
+                second: due.letter,
             },
-            n: n,
-            work: Work::Close(s.due, n - 1, blank),
-        }
+        ))
     }
 }
 
-// An input on a checked table: an open transition, none due, no split, at most 512 inputs, at most 240 that wait.
-fn take_input(
-    c: Config,
-    states: u16,
-    initial: u16,
-    count: usize,
-    cells: &Cells,
-    letter: u16,
-    s: Seen,
-) -> Decided
-    requires { Valid (machine_of (table_in states initial count cells.now)) }
-    ensures { InputDecides (machine_of (table_in states initial count cells.now)) c letter s result }
+// What a move comes to: the table, the configuration, the room, then the move.
+fn step(c: Config, t: &Table, list: &mut [Pending], m: Move) -> Next
+    ensures { PlayOutcome (machine_of t.now) c list.old m (answer_fields (answer_after result)) (config_after c result) list.new }
 {
-    let i = open::first_open(cells, count, c.state, letter, c.timer);
-    if count <= i {
-        return c.refused(Answer::Closed);
+    table::check(t)?;
+    if !c.whole(t, list) {
+        return Err(Denial::Damaged);
     }
-    if s.least == 0 {
-        return c.refused(Answer::Untimely);
+    if list.len() < 240 {
+        return Err(Denial::from(Refusal::NoRoom));
     }
-    if !open::unsplit(states, initial, count, cells) {
-        return c.refused(Answer::Split);
-    }
-    if 512 <= c.inputs {
-        return c.refused(Answer::Spent);
-    }
-    if 240 <= c.waiting {
-        return c.refused(Answer::Damaged);
-    }
-    c.input(i, table::row_of(cells, i))
-}
-
-// A move on a checked table and a configuration that is not damaged.
-fn decide_move(
-    c: Config,
-    states: u16,
-    initial: u16,
-    count: usize,
-    cells: &Cells,
-    s: Seen,
-    m: Move,
-) -> Decided
-    requires { Valid (machine_of (table_in states initial count cells.now)) }
-    ensures { MoveDecides (machine_of (table_in states initial count cells.now)) c m s result }
-{
     match m {
-        Move::Time(t) => c.time(t, s),
-        Move::Input(letter) => take_input(c, states, initial, count, cells, letter, s),
-        Move::Output => c.output(s),
+        Move::Time(parts) => c.time(list, parts),
+        Move::Input(letter) => c.input(t, list, letter),
+        Move::Output => c.output(list),
     }
 }
 
-// What a move comes to, by what was seen of the list: the table, the configuration, the room, then the move.
-fn decide(
-    c: Config,
-    states: u16,
-    initial: u16,
-    count: usize,
-    cells: &Cells,
-    len: usize,
-    w: Work,
-    m: Move,
-) -> Decided
-    ensures { Decides (machine_of (table_in states initial count cells.now)) c m len w result }
+// The first configuration, with so many records lent: the initial state, timer 0, no inputs, none waiting.
+fn begin(t: &Table, lent: usize) -> Next
+    ensures { StartOutcome (machine_of t.now) lent (answer_fields (answer_after result)) (config_after (fresh 0) result) }
 {
-    let checked = table::check_parts(states, initial, count, cells);
-    if let Checked::Refused(r) = checked {
-        return c.refused(Answer::Refused(r));
-    }
-    let Work::Look(s) = w else {
-        return c.refused(Answer::Damaged);
-    };
-    if !c.whole(states, len, s.fine) {
-        return c.refused(Answer::Damaged);
-    }
-    if len < 240 {
-        return c.refused(Answer::Refused(Refusal::NoRoom));
-    }
-    decide_move(c, states, initial, count, cells, s, m)
-}
-
-// The start, with so many records lent: the initial state, timer 0, no inputs, none waiting.
-pub fn start(states: u16, initial: u16, count: usize, cells: &Cells, lent: usize) -> Moved
-    ensures { StartOutcome (machine_of (table_in states initial count cells.now)) lent (answer_fields result.answer) result.config }
-{
-    let none = Config {
-        state: 0,
-        inputs: 0,
-        waiting: 0,
-        timer: 0,
-    };
-    let checked = table::check_parts(states, initial, count, cells);
-    if let Checked::Refused(r) = checked {
-        return Moved {
-            config: none,
-            answer: Answer::Refused(r),
-        };
-    }
+    table::check(t)?;
     if lent < 240 {
-        return Moved {
-            config: none,
-            answer: Answer::Refused(Refusal::NoRoom),
-        };
+        return Err(Denial::from(Refusal::NoRoom));
     }
-    if !open::unsplit(states, initial, count, cells) {
-        return Moved {
-            config: none,
-            answer: Answer::Split,
-        };
+    if !open::unsplit(t) {
+        return Err(Denial::Split);
     }
-    let first = Config {
-        state: initial,
-        inputs: 0,
-        waiting: 0,
-        timer: 0,
-    };
-    Moved {
-        config: first,
-        answer: Answer::Done(0, 0),
-    }
+    Ok((
+        Config {
+            state: t.initial,
+            ..Config::default()
+        },
+        Done::default(),
+    ))
 }
 
-// One move: the list is looked over, what is seen decides, and the list is swept.
-pub fn play(
-    c: Config,
-    states: u16,
-    initial: u16,
-    count: usize,
-    cells: &Cells,
-    list: &mut [Pending],
-    m: Move,
-) -> Moved
-    ensures { PlayOutcome (machine_of (table_in states initial count cells.now)) c list.old m
-        (answer_fields result.answer) result.config list.new }
+// The start, with so many records lent.
+pub fn start(t: &Table, lent: usize) -> Moved
+    ensures { StartOutcome (machine_of t.now) lent (answer_fields result.answer) result.config }
 {
-    let p = c.look();
-    let w = records::sweep(list, p.n, p.work);
-    let d = decide(c, states, initial, count, cells, list.len(), w, m);
-    records::sweep(list, d.n, d.work);
-    d.moved
+    Moved::after(Config::default(), begin(t, lent))
 }
 
-// The same on a list by value: the one place that lends a list of its own.
-pub fn play_held(
-    c: Config,
-    states: u16,
-    initial: u16,
-    count: usize,
-    cells: &Cells,
-    list: [Pending; 240],
-    m: Move,
-) -> Held
-    ensures { PlayOutcome (machine_of (table_in states initial count cells.now)) c list m
-        (answer_fields result.moved.answer) result.moved.config result.list }
+// One move on a lent list.
+pub fn play(c: Config, t: &Table, list: &mut [Pending], m: Move) -> Moved
+    ensures { PlayOutcome (machine_of t.now) c list.old m (answer_fields result.answer) result.config list.new }
 {
-    let mut own = list;
-    let moved = play(c, states, initial, count, cells, &mut own, m);
-    let left = own;
-    Held {
-        moved: moved,
-        list: left,
-    }
+    Moved::after(c, step(c, t, list, m))
+}
+
+// The same on a list by value, which is handed back.
+pub fn play_held(c: Config, t: &Table, mut list: [Pending; 240], m: Move) -> Held
+    ensures { PlayOutcome (machine_of t.now) c list m (answer_fields result.moved.answer) result.moved.config result.list }
+{
+    let moved = play(c, t, &mut list, m);
+    Held { moved, list }
 }

@@ -40,7 +40,7 @@ take_more k (suc n) b =
 pub take-to : (k n : ℕ) (b : List ℕ) → k ≤ n → take k (records_to n b) ≡ records_to k b
 take-to k n b h = let e : k + (n - k) ≡ n = omega arith in subst (λ (j : ℕ). take k (records_to j b) ≡ records_to k b) e (take_more k (n - k) b)
 
-drop_all : (n : ℕ) (xs : List Pending) → length xs ≤ n → drop n xs ≡ []
+pub drop_all : (n : ℕ) (xs : List Pending) → length xs ≤ n → drop n xs ≡ []
 drop_all zero [] k = refl
 drop_all zero (x ∷ xs) k = absurd (omega (arith, k))
 drop_all (suc n) [] k = refl

@@ -10,8 +10,7 @@ use Rattle.table_file.specs.File.{read_file}
 use Rattle.records.specs.declared.Pending.{Pending}
 use Rattle.player.specs.declared.Config.{Config}
 use Rattle.player.specs.declared.Move.{Move}
-use Rattle.player.specs.declared.Answer.{Answer}
-use Rattle.player.specs.Answer.{answer_fields}
+use Rattle.player.specs.Answer.{Answer, answer_fields}
 use Rattle.player.proofs.OnlyLaws.{answer-only, done-only}
 use Rattle.places.proofs.ReadingLaws.{on-file}
 use Rattle.player_bytes.specs.Records.{config_in, config_bytes, records_in, records_bytes}

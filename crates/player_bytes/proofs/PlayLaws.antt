@@ -1,24 +1,37 @@
 -- The calls on bytes by the calls on values.
-use mathlib.Core.Path.{◌≡◌, refl, sym, ap, ◌∙◌, subst}
+use mathlib.Core.Path.{◌≡◌, refl, ap, ◌∙◌, subst}
 use mathlib.Core.Logic.{inl, inr}
-use mathlib.Core.List.{List, [], ◌∷◌, ◌++◌, map}
+use mathlib.Core.List.{List, [], ◌∷◌, ◌++◌, append-nil}
 use Prim.Native.Nat.{ℕ, ◌/◌, ◌≤◌, ◌<◌}
 use native.Mathlib.Omega.{arith}
 use lib.ListN.{length, take, drop}
-use lib.Seq.{take-take, length-take-le}
-use Rattle.model.specs.Answers.{Fields, fields}
-use Rattle.model.specs.Lists.{All, all_nil, all_cons, Sorted}
+use Rattle.std.specs.Prelude.{Ok, Err}
+use Rattle.model.specs.Answers.{Fields}
 use Rattle.model.specs.Table.{Machine, Valid}
 use Rattle.table.specs.Tests.{Test, unless, Passes, Fails, refuses, answers, after_table}
+use Rattle.table.proofs.RefusalLaws.{refusal-some}
 use Rattle.table.proofs.TestLaws.{Numbered, fails-numbered, fails-back, table-law, passes_append}
 use Rattle.records.specs.declared.Pending.{Pending}
 use Rattle.player.specs.declared.Config.{Config}
 use Rattle.player.specs.declared.Move.{Move}
 use Rattle.player.specs.declared.Move.TheVariants.{Time, Input, Output}
-use Rattle.player.specs.Moves.{Whole, Sane, waiting_in, move_tests, MoveDone, PlayOutcome, StartOutcome, start_tests}
+use Rattle.player.specs.declared.Done.{Done}
+use Rattle.player.specs.declared.Denial.{Denial}
+use Rattle.player.specs.declared.Denial.TheVariants.{Refused, Closed, Untimely, Split, Spent, Damaged}
+use Rattle.player.specs.Answer.{answer_fields}
+use Rattle.player.specs.Moves.{Whole, move_tests, MoveDone, PlayOutcome, StartOutcome, start_tests}
 use Rattle.player_bytes.specs.Records.{config_in, config_bytes, records_to, lent_in, records_in, records_bytes}
-use Rattle.player_bytes.proofs.HeldLaws.{take-to, length_to}
-use Rattle.player_bytes.specs.Plays.{start_tests_in, StartOnMachine, play_tests_in, ShortOutcome, PlayOnMachine}
+use Rattle.player_bytes.proofs.HeldLaws.{take-to, length_to, drop_all}
+use Rattle.player_bytes.specs.Plays.{start_tests_in, StartOnMachine, play_tests_in, PlayOnMachine}
+
+-- no denial has the number 0
+denied-some : (d : Denial) → 0 < (answer_fields (Err d)).status
+denied-some (Refused r) = (refusal-some r).0
+denied-some Closed = omega arith
+denied-some Untimely = omega arith
+denied-some Split = omega arith
+denied-some Spent = omega arith
+denied-some Damaged = omega arith
 
 -- what a move on values tests after the table
 abbrev move_all : Machine → Config → List Pending → Move → List Test
@@ -55,71 +68,12 @@ module _ (m : Machine) (valid : Valid m) where
     start-fails n p (inl x) = inl ((λ r. x.0 r.1), x.1, x.2)
     start-fails n p (inr x) = inr ((ten, x.0), x.1)
 
-    pub start-refused : {f : Fields} {c' : Config} → 0 < f.status → StartOutcome m lent f c' → StartOnMachine m config₀ lent f config₀
-    start-refused h (refuses {n} {p} e x k) = refuses e (start-fails n p (after m valid (start_tests m lent) n p x)) refl
-    start-refused h (answers ps d) = absurd (omega (arith, h, ap (λ (g : Fields). g.status) d.0))
+    pub start-refused : (d : Denial) {c' : Config} → StartOutcome m lent (answer_fields (Err d)) c'
+        → StartOnMachine m config₀ lent (answer_fields (Err d)) config₀
+    start-refused d (refuses {n} {p} e x k) = refuses e (start-fails n p (after m valid (start_tests m lent) n p x)) refl
+    start-refused d (answers ps did) = absurd (omega (arith, denied-some d, ap (λ (g : Fields). g.status) did.0))
 
-    pub start-done : {f : Fields} {c' : Config} {config : List ℕ} → f.status ≤ 0 → config ≡ config_bytes c' ++ drop 10 config₀ → StartOutcome m lent f c' → StartOnMachine m config₀ lent f config
-    start-done h w (refuses {n} {p} e x k) =
-        let b = fails-numbered (start_tests m lent) n p (omega arith, omega arith, (omega arith, omega arith, tt)) (after m valid (start_tests m lent) n p x) in
-        absurd (omega (arith, h, b.0, ap (λ (g : Fields). g.status) e))
-    start-done h w (answers ps d) =
-        let t = passes-after m (start_tests m lent) ps in
-        answers ((ten, t.0), t.1) (d.0, w ∙ ap (λ (c : Config). config_bytes c ++ drop 10 config₀) d.1)
-
-  -- fewer than 240 records: what is seen of the first ones is seen of all
-  module _ (c : Config) (l : List Pending) (all : length l ≡ 240) (lent : ℕ) (few : lent < 240) where
-    pub short-more : lent < c.waiting → ShortOutcome m c (take lent l) (fields 15 0 0 0)
-    short-more h = refuses refl (inl ((λ w. omega (arith, h, w.lent, length-take-le lent l (omega arith))), refl, refl)) tt
-
-    module _ (h : c.waiting ≤ lent) where
-      same : waiting_in c (take lent l) ≡ waiting_in c l
-      same = take-take c.waiting lent l h
-
-      whole-all : Whole m c (take lent l) → Whole m c l
-      whole-all w = record {
-        state = w.state;
-        timer = w.timer;
-        inputs = w.inputs;
-        few = w.few;
-        lent = omega arith;
-        rises = subst (λ (x : List Pending). Sorted ◌<◌ (map (λ p. p.step) x)) same w.rises;
-        sane = subst (All (Sane c.inputs)) same w.sane;
-      }
-
-      whole-first : Whole m c l → Whole m c (take lent l)
-      whole-first w = record {
-        state = w.state;
-        timer = w.timer;
-        inputs = w.inputs;
-        few = w.few;
-        lent = omega (arith, length-take-le lent l (omega arith));
-        rises = subst (λ (x : List Pending). Sorted ◌<◌ (map (λ p. p.step) x)) (sym same) w.rises;
-        sane = subst (All (Sane c.inputs)) (sym same) w.sane;
-      }
-
-      none-early : (xs : List Pending) → All (λ p. 0 ≤ p.left) xs
-      none-early [] = all_nil
-      none-early (x ∷ xs) = all_cons {a = x} (omega arith) (none-early xs)
-
-      broken : (n p : ℕ) → Fails (move_all m c l (Time 0)) n p → ShortOutcome m c (take lent l) (fields 15 0 0 0)
-      broken n p (inl y) = refuses refl (inl ((λ w. y.0 (whole-all w)), refl, refl)) tt
-      broken n p (inr (w, inl y)) = absurd (y.0 (omega arith))
-      broken n p (inr (w, inr (r, inl y))) = absurd (y.0 (none-early (waiting_in c l)))
-      broken n p (inr (w, inr (r, inr y))) = absurd y.1
-
-      pub short-refused : {f : Fields} {c' : Config} {l' : List Pending} → 0 < f.status → PlayOutcome m c l (Time 0) f c' l'
-          → ShortOutcome m c (take lent l) (fields 15 0 0 0)
-      short-refused {f} {c'} {l'} k (answers ps d) = absurd (omega (arith, k, done-status m c l (Time 0) f c' l' d))
-      short-refused k (refuses {n} {p} e x kept) = broken n p (after m valid (move_all m c l (Time 0)) n p x)
-
-      pub short-done : {f : Fields} {c' : Config} {l' : List Pending} → f.status ≤ 0 → PlayOutcome m c l (Time 0) f c' l'
-          → ShortOutcome m c (take lent l) (fields 8 0 0 0)
-      short-done k (refuses {n} {p} e x kept) = absurd (not-failed m c l (Time 0) n p (omega (arith, k, ap (λ (g : Fields). g.status) e)) (after m valid
-          (move_all m c l (Time 0)) n p x))
-      short-done k (answers ps d) = refuses refl (inr (whole-first (passes-after m (move_all m c l (Time 0)) ps).0, inl ((λ x. x), refl, refl))) tt
-
-  -- a move
+  -- a move on the records that are lent, at most 240 of them
   module _ (config₀ waiting₀ : List ℕ) (mv : Move) (ten : 10 ≤ length config₀) where
     abbrev c₀ : Config
     c₀ = config_in config₀
@@ -127,59 +81,54 @@ module _ (m : Machine) (valid : Valid m) where
     abbrev l₀ : List Pending
     l₀ = records_in waiting₀
 
-    pub played-short : {f : Fields} → length waiting₀ / 8 < 240 → ShortOutcome m c₀ l₀ f → PlayOnMachine m config₀ waiting₀ mv f config₀ waiting₀
-    played-short h (answers ps d) = absurd d
-    played-short h (refuses s (inl x) k) = refuses s (inr (ten, inl x)) (refl, refl)
-    played-short h (refuses s (inr (w, inl x)) k) = refuses s (inr (ten, inr (w, inl ((λ r. omega arith), x.1, x.2)))) (refl, refl)
-    played-short h (refuses s (inr (w, inr x)) k) = absurd x.1
+    long : length l₀ ≡ lent_in waiting₀
+    long = length_to (lent_in waiting₀) waiting₀
 
-    module _ (all : length l₀ ≡ 240) (room : 240 ≤ length waiting₀ / 8) where
-      moved : (n p : ℕ) → Fails (move_all m c₀ l₀ mv) n p → Fails (play_tests_in m config₀ waiting₀ mv) n p
-      moved n p (inl y) = inr (ten, inl y)
-      moved n p (inr (w, inl y)) = absurd (y.0 (omega arith))
-      moved n p (inr (w, inr (r, y))) = inr (ten, inr (w, inr (room, y)))
+    moved : (n p : ℕ) → Fails (move_all m c₀ l₀ mv) n p → Fails (play_tests_in m config₀ waiting₀ mv) n p
+    moved n p (inl y) = inr (ten, inl y)
+    moved n p (inr (w, inl y)) = inr (ten, inr (w, inl ((λ r. y.0 (omega (arith, long, r))), y.1, y.2)))
+    moved n p (inr (w, inr (r, y))) = inr (ten, inr (w, inr (omega (arith, long, r), y)))
 
-      pub played-refused : {f : Fields} {c' : Config} {l' : List Pending} → 0 < f.status → PlayOutcome m c₀ l₀ mv f c' l'
-          → PlayOnMachine m config₀ waiting₀ mv f config₀ waiting₀
-      played-refused {f} {c'} {l'} h (answers ps d) = absurd (omega (arith, h, done-status m c₀ l₀ mv f c' l' d))
-      played-refused h (refuses {n} {p} s x k) = refuses s (moved n p (after m valid (move_all m c₀ l₀ mv) n p x)) (refl, refl)
+    played-refused : (d : Denial) {c' : Config} {l' : List Pending} → PlayOutcome m c₀ l₀ mv (answer_fields (Err d)) c' l'
+        → PlayOnMachine m config₀ waiting₀ mv (answer_fields (Err d)) config₀ waiting₀
+    played-refused d {c'} {l'} (answers ps did) = absurd (omega (arith, denied-some d, done-status m c₀ l₀ mv (answer_fields (Err d)) c' l' did))
+    played-refused d (refuses {n} {p} s x k) = refuses s (moved n p (after m valid (move_all m c₀ l₀ mv) n p x)) (refl, refl)
 
-      pub played-done : {f : Fields} {c' : Config} {l' : List Pending} {config waiting : List ℕ} → f.status ≤ 0
-          → config ≡ config_bytes c' ++ drop 10 config₀ → waiting ≡ records_bytes l' ++ drop 1920 waiting₀ → PlayOutcome m c₀ l₀ mv f c' l'
-          → PlayOnMachine m config₀ waiting₀ mv f config waiting
-      played-done k u v (refuses {n} {p} e x kept) =
-          absurd (not-failed m c₀ l₀ mv n p (omega (arith, k, ap (λ (g : Fields). g.status) e)) (after m valid (move_all m c₀ l₀ mv) n p x))
-      played-done {f} {c'} {l'} k u v (answers ps d) =
-          let t = passes-after m (move_all m c₀ l₀ mv) ps in
-          answers (ten, (t.0, (room, t.1.1))) (record { next = c'; list = l'; done = d; config_is = u; waiting_is = v })
+    passed : (d : Done) {c' : Config} {l' : List Pending} → PlayOutcome m c₀ l₀ mv (answer_fields (Ok d)) c' l'
+        → Passes (move_all m c₀ l₀ mv) × MoveDone m c₀ l₀ mv (answer_fields (Ok d)) c' l'
+    passed d (refuses {n} {p} e x kept) =
+        absurd (not-failed m c₀ l₀ mv n p (omega (arith, ap (λ (g : Fields). g.status) e)) (after m valid (move_all m c₀ l₀ mv) n p x))
+    passed d (answers ps did) = (passes-after m (move_all m c₀ l₀ mv) ps, did)
 
-    -- the same of what was decoded: the first 240 records, as far as they are lent
-    module _ {c : Config} {l : List Pending} (ec : c ≡ c₀) (el : l ≡ records_to 240 waiting₀) where
-      pub on-short : {f : Fields} → length waiting₀ / 8 < 240 → ShortOutcome m c (take (length waiting₀ / 8) l) f
-          → PlayOnMachine m config₀ waiting₀ mv f config₀ waiting₀
-      on-short {f} h x =
-          let k : length waiting₀ / 8 ≡ lent_in waiting₀ = omega arith in
-          let t : take (length waiting₀ / 8) l ≡ l₀ =
-          ap (take (length waiting₀ / 8)) el ∙ take-to (length waiting₀ / 8) 240 waiting₀ (omega arith) ∙ ap (λ (n : ℕ). records_to n waiting₀) k in
-          played-short h (subst (λ (y : List Pending). ShortOutcome m c₀ y f) t (subst (λ (z : Config). ShortOutcome m z (take
-          (length waiting₀ / 8) l) f) ec x))
+    -- the same of what was decoded: of 240 records those that are lent
+    module _ {c : Config} {l : List Pending} (ec : c ≡ c₀) (el : l ≡ records_to 240 waiting₀) {lent : ℕ} (en : lent ≡ lent_in waiting₀) where
+      lent-is : take lent l ≡ l₀
+      lent-is = ap (λ (n : ℕ). take n l) en ∙ ap (λ (x : List Pending). take (lent_in waiting₀) x) el ∙ take-to (lent_in waiting₀) 240 waiting₀ (omega arith)
 
-      module _ (room : 240 ≤ length waiting₀ / 8) where
-        all-lent : l ≡ l₀
-        all-lent = let k : 240 ≡ lent_in waiting₀ = omega arith in el ∙ ap (λ (n : ℕ). records_to n waiting₀) k
+      given : {f : Fields} {c' : Config} {l' : List Pending} → PlayOutcome m c (take lent l) mv f c' l' → PlayOutcome m c₀ l₀ mv f c' l'
+      given {f} {c'} {l'} x =
+          subst (λ (y : List Pending). PlayOutcome m c₀ y mv f c' l') lent-is (subst (λ (z : Config). PlayOutcome m z (take lent l) mv f c' l') ec x)
 
-        long : length l₀ ≡ 240
-        long = ap length (sym all-lent ∙ el) ∙ length_to 240 waiting₀
+      pub on-refused : (d : Denial) {c' : Config} {l' : List Pending} → PlayOutcome m c (take lent l) mv (answer_fields (Err d)) c' l'
+          → PlayOnMachine m config₀ waiting₀ mv (answer_fields (Err d)) config₀ waiting₀
+      on-refused d x = played-refused d (given x)
 
-        given : {f : Fields} {c' : Config} {l' : List Pending} → PlayOutcome m c l mv f c' l' → PlayOutcome m c₀ l₀ mv f c' l'
-        given {f} {c'} {l'} x =
-            subst (λ (y : List Pending). PlayOutcome m c₀ y mv f c' l') all-lent (subst (λ (z : Config). PlayOutcome m z l mv f c' l') ec x)
+      module _ (d : Done) {c' : Config} {l' : List Pending} (x : PlayOutcome m c (take lent l) mv (answer_fields (Ok d)) c' l') where
+        done : Passes (move_all m c₀ l₀ mv) × MoveDone m c₀ l₀ mv (answer_fields (Ok d)) c' l'
+        done = passed d (given x)
 
-        pub on-refused : {f : Fields} {c' : Config} {l' : List Pending} → 0 < f.status → PlayOutcome m c l mv f c' l'
-            → PlayOnMachine m config₀ waiting₀ mv f config₀ waiting₀
-        on-refused h x = played-refused long room h (given x)
+        on-room : 240 ≤ length waiting₀ / 8
+        on-room = omega (arith, long, done.0.1.0)
 
-        pub on-done : {f : Fields} {c' : Config} {l' : List Pending} {config waiting : List ℕ} → f.status ≤ 0
-            → config ≡ config_bytes c' ++ drop 10 config₀ → waiting ≡ records_bytes l' ++ drop 1920 waiting₀ → PlayOutcome m c l mv f c' l'
-            → PlayOnMachine m config₀ waiting₀ mv f config waiting
-        on-done h u v x = played-done long room h u v (given x)
+        pub on-done : {config waiting : List ℕ} → config ≡ config_bytes c' ++ drop 10 config₀
+            → waiting ≡ records_bytes (l' ++ drop lent l) ++ drop 1920 waiting₀ → PlayOnMachine m config₀ waiting₀ mv (answer_fields (Ok d)) config waiting
+        on-done u v =
+            let none : drop lent l ≡ [] = drop_all lent l (omega (arith, en, on-room, ap length el, length_to 240 waiting₀)) in
+            let kept : l' ++ drop lent l ≡ l' = rw none (append-nil l') in
+            answers (ten, (done.0.0, (on-room, done.0.1.1))) (record {
+              next = c';
+              list = l';
+              done = done.1;
+              config_is = u;
+              waiting_is = v ∙ ap (λ (y : List Pending). records_bytes y ++ drop 1920 waiting₀) kept;
+            })

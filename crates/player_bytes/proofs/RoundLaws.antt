@@ -7,7 +7,7 @@ use lib.ListN.{length, take, drop, length-append, length-drop, take-append-drop}
 use lib.Seq.{take-add, drop-drop}
 use Rattle.model.specs.Lists.{All, all_nil, all_cons}
 use Rattle.model.proofs.Lists.{all_append}
-use Rattle.wire.specs.Bytes.{le, bytes, Bytes}
+use Rattle.wire.specs.Bytes.{bytes_by, le, bytes, Bytes}
 use Rattle.wire.proofs.Bytes.{le-drop, bytes-les, bytes-bytes, bytes_drop}
 use Rattle.records.specs.declared.Pending.{Pending}
 use Rattle.player.specs.declared.Config.{Config}
@@ -38,16 +38,16 @@ module _ (b : List ℕ) (bytes : Bytes b) where
   records-small (suc n) = all_append (records-small n) (all_cons {a = record_at b (n * 8)} (record-small (n * 8)) all_nil)
 
 pub config-back : (c : Config) (rest : List ℕ) → Slim c → config_in (config_bytes c ++ rest) ≡ c
-unfolding bytes
+unfolding bytes_by
 config-back c rest s =
     sym (config_is (config_bytes c ++ rest) (omega (arith, s.0)) (omega (arith, s.1)) (omega (arith, s.2)) (omega (arith, s.3)))
 
 pub length-config : (c : Config) (rest : List ℕ) → length (config_bytes c ++ rest) ≡ 10 + length rest
-unfolding bytes
+unfolding bytes_by
 length-config c rest = omega arith
 
 record-back : (p : Pending) (rest : List ℕ) → Narrow p → record_at (record_bytes p ++ rest) 0 ≡ p
-unfolding bytes
+unfolding bytes_by
 record-back p rest s = sym (record_is (record_bytes p ++ rest) 0 (omega (arith, s.0)) (omega (arith, s.1)) (omega (arith, s.2)))
 
 -- the first record, and those after it
@@ -61,7 +61,7 @@ records-front (suc n) b =
     rw (e, records-front n b)
 
 pub records-back : (l : List Pending) (rest : List ℕ) → All Narrow l → records_to (length l) (records_bytes l ++ rest) ≡ l
-unfolding records_to records_bytes bytes
+unfolding records_to records_bytes bytes_by
 records-back [] rest all_nil = refl
 records-back (p ∷ l) rest (all_cons s t) =
     let b : List ℕ = record_bytes p ++ (records_bytes l ++ rest) in
@@ -116,7 +116,7 @@ module _ (b : List ℕ) (are : Bytes b) where
 -- two lists with the same records from n on, in bytes
 pub same-beyond : (n : ℕ) (l l' : List Pending) (r : List ℕ) → length l ≡ length l' → drop n l ≡ drop n l'
     → drop (n * 8) (records_bytes l ++ r) ≡ drop (n * 8) (records_bytes l' ++ r)
-unfolding records_bytes bytes
+unfolding records_bytes bytes_by
 same-beyond zero l l' r k e = ap (λ (x : List Pending). records_bytes x ++ r) e
 same-beyond (suc n) [] [] r k e = refl
 same-beyond (suc n) [] (q ∷ l') r k e = absurd (omega arith)

@@ -128,7 +128,7 @@ module _ (file : List ℕ) (are : Bytes file) (config₀ waiting₀ : List ℕ) 
   start-read o = of-file (read_file file) _ _ (λ n p e x. absurd (omega (arith, (places file n p e).first, ap (λ (g : Fields). g.status) x.0)))
       (λ m e y. (m, e)) o.0
 
-  -- "places beyond the waiting ones keep what they held", in bytes
+  -- bytes beyond the records that wait are as they were
   pub beyond-kept : (mv : Move) (f : Fields) → PlayBytesOutcome file config₀ waiting₀ mv f config waiting → Beyond waiting₀ config waiting
   beyond-kept mv f o = of-file (read_file file) _ _ (λ n p e x. same-stays x.2)
       (λ m e x. on-beyond m (sound file m are e).0 config₀ waiting₀ bytes mv f config waiting x) o

@@ -12,32 +12,28 @@ use Rattle.player.specs.Moves.{Whole, move_tests, MoveDone, fresh}
 use Rattle.places.specs.OnFile.{on_file}
 use Rattle.player_bytes.specs.Records.{config_in, config_bytes, records_in, records_bytes}
 
--- "either too short"; a split table
+-- either buffer too short; a split table
 abbrev pub start_tests_in : Machine → List ℕ → ℕ → List Test
 start_tests_in m config₀ lent = unless 8 ((10 ≤ length config₀) × (240 ≤ lent)) ∷ unless 13 (Splits m → ⊥) ∷ []
 
--- with a machine that was read, and so many records lent: "bytes after the tenth stay"; "A refusal .. writes nothing"
+-- with a machine that was read, and so many records lent: bytes after the tenth stay; a refusal writes nothing
 abbrev pub StartOnMachine : Machine → List ℕ → ℕ → Fields → List ℕ → Type 0
 StartOnMachine m config₀ lent f config =
     Answered (start_tests_in m config₀ lent) (λ f. (f ≡ fields 0 0 0 0) × (config ≡ config_bytes (fresh m.initial) ++ drop 10 config₀)) (config ≡ config₀) f
 
--- "room counts whole records"; "Writes the configuration alone"
+-- room counts whole records; only the configuration is written
 abbrev pub StartBytesOutcome : List ℕ → List ℕ → List ℕ → Fields → List ℕ → List ℕ → Type 0
 StartBytesOutcome file config₀ waiting₀ f config waiting =
     on_file (read_file file) (λ n p. (f ≡ fields n p 0 0) × (config ≡ config₀)) (λ m. StartOnMachine m config₀ (length waiting₀ / 8) f config)
     × (waiting ≡ waiting₀)
 
--- "A move whose configuration has fewer than 10 bytes is 15"; then the move's own tests on what the bytes say
+-- a move whose configuration has fewer than 10 bytes is 15; then the move's own tests on what the bytes say
 abbrev pub play_tests_in : Machine → List ℕ → List ℕ → Move → List Test
 play_tests_in m config₀ waiting₀ mv =
     unless 15 (10 ≤ length config₀) ∷
     unless 15 (Whole m (config_in config₀) (records_in waiting₀)) ∷
     unless 8 (240 ≤ length waiting₀ / 8) ∷
     move_tests m (config_in config₀) (records_in waiting₀) mv
-
--- a move on fewer than 240 records: no more is tested
-abbrev pub ShortOutcome : Machine → Config → List Pending → Fields → Type 0
-ShortOutcome m c l f = Answered (unless 15 (Whole m c l) ∷ unless 8 ⊥ ∷ []) (λ f. ⊥) (Unit {0}) f
 
 -- what the move on values hands back, in bytes: each buffer then holds what it held
 pub record PlayedIn (m : Machine) (config₀ waiting₀ : List ℕ) (mv : Move) (f : Fields) (config waiting : List ℕ) : Type 0 where
@@ -47,7 +43,7 @@ pub record PlayedIn (m : Machine) (config₀ waiting₀ : List ℕ) (mv : Move) 
   pub config_is : config ≡ config_bytes next ++ drop 10 config₀
   pub waiting_is : waiting ≡ records_bytes list ++ drop 1920 waiting₀
 
--- with a machine that was read; "A refusal .. writes nothing"
+-- with a machine that was read; a refusal writes nothing
 abbrev pub PlayOnMachine : Machine → List ℕ → List ℕ → Move → Fields → List ℕ → List ℕ → Type 0
 PlayOnMachine m config₀ waiting₀ mv f config waiting =
     Answered (play_tests_in m config₀ waiting₀ mv) (λ f. PlayedIn m config₀ waiting₀ mv f config waiting)

@@ -1,4 +1,4 @@
--- A configuration and its records in bytes: "state (2 bytes), inputs so far (2), number waiting (2), timer (4)"; "step (2), letter (2), time left (4)".
+-- A configuration and its records in bytes: state, inputs so far and number waiting in 2 each, timer in 4; step and letter in 2 each, time left in 4.
 use Rattle.std.specs.Prelude.{List, [], ◌∷◌, ◌++◌, ℕ, zero, suc, ◌+◌, ◌*◌, ◌/◌, min, length}
 use Rattle.wire.specs.Bytes.{le, bytes}
 use Rattle.records.specs.declared.Pending.{Pending}
@@ -25,7 +25,7 @@ unfoldable pub records_to : ℕ → List ℕ → List Pending
 records_to zero b = []
 records_to (suc n) b = records_to n b ++ (record_at b (n * 8) ∷ [])
 
--- "room counts whole records": the records that are lent, of which the player takes no more than 240
+-- the whole records that are lent, of which the player takes no more than 240
 abbrev pub lent_in : List ℕ → ℕ
 lent_in b = min 240 (length b / 8)
 

@@ -23,10 +23,8 @@ pub(crate) fn put_config(out: &mut [u8], c: Config)
     requires { 10 ≤ length out.old }
     ensures { out.new ≡ config_bytes c ++ drop 10 out.old }
 {
-    let twos = [c.state, c.inputs, c.waiting];
-    let fours = [c.timer];
-    wire::put_twos(out, 0, &twos);
-    wire::put_fours(out, 6, &fours);
+    wire::put(out, 0, &[c.state, c.inputs, c.waiting]);
+    wire::put(out, 6, &[c.timer]);
 }
 
 // The record at k.
@@ -45,16 +43,9 @@ fn record_at(b: &[u8], k: usize) -> Pending
 pub(crate) fn records_in(b: &[u8]) -> [Pending; 240]
     ensures { result ≡ records_to 240 b.now }
 {
-    let blank = Pending {
-        step: 0,
-        letter: 0,
-        left: 0,
-    };
-    let mut list = [blank; 240];
-    let mut i: usize = 0;
-    while i < 240 {
+    let mut list = [Pending::default(); 240];
+    for i in 0..240 {
         list[i] = record_at(b, i * 8);
-        i += 1;
     }
     list
 }
@@ -65,20 +56,16 @@ fn put_record(out: &mut [u8], k: usize, p: Pending)
     requires in_bounds { 1920 ≤ length out.old }
     ensures { out.new ≡ placed out.old k (record_bytes p) }
 {
-    let twos = [p.step, p.letter];
-    let fours = [p.left];
-    wire::put_twos(out, k, &twos);
-    wire::put_fours(out, k + 4, &fours);
+    wire::put(out, k, &[p.step, p.letter]);
+    wire::put(out, k + 4, &[p.left]);
 }
 
 // The records in the first 1,920 bytes.
-pub(crate) fn put_records(out: &mut [u8], list: [Pending; 240])
+pub(crate) fn put_records(out: &mut [u8], list: &[Pending; 240])
     requires { 1920 ≤ length out.old }
-    ensures { out.new ≡ records_bytes list ++ drop 1920 out.old }
+    ensures { out.new ≡ records_bytes list.now ++ drop 1920 out.old }
 {
-    let mut i: usize = 0;
-    while i < 240 {
-        put_record(out, i * 8, list[i]);
-        i += 1;
+    for (i, &p) in list.iter().enumerate() {
+        put_record(out, i * 8, p);
     }
 }

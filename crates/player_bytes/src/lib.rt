@@ -4,7 +4,7 @@ ghost use Rattle.player.specs.Answer.{answer_fields};
 ghost use Rattle.player_bytes.specs.Plays.{StartBytesOutcome, PlayBytesOutcome};
 
 use player::{Answer, Move};
-use table::Checked;
+use table::{BLANK, Table};
 
 mod held;
 mod plays;
@@ -14,13 +14,14 @@ pub fn start_bytes(file: &[u8], config: &mut [u8], waiting: &mut [u8]) -> Answer
     ensures { StartBytesOutcome file.now config.old waiting.old (answer_fields result)
         config.new waiting.new }
 {
-    let mut cells = [0u16; 1792];
-    let read = table_file::read_into(file, &mut cells);
-    let answer = read.answer;
-    if let Checked::Refused(r) = answer {
-        return Answer::Refused(r);
-    }
-    plays::start_on(read, &cells, config, waiting.len() / 8)
+    let mut t = Table {
+        states: 1,
+        initial: 0,
+        count: 0,
+        cells: [BLANK; 256],
+    };
+    table_file::read_into(file, &mut t)?;
+    plays::start_on(&t, config, waiting.len() / 8)
 }
 
 // A move on a table file.
@@ -28,11 +29,12 @@ pub fn play_bytes(file: &[u8], config: &mut [u8], waiting: &mut [u8], m: Move) -
     ensures { PlayBytesOutcome file.now config.old waiting.old m (answer_fields result)
         config.new waiting.new }
 {
-    let mut cells = [0u16; 1792];
-    let read = table_file::read_into(file, &mut cells);
-    let answer = read.answer;
-    if let Checked::Refused(r) = answer {
-        return Answer::Refused(r);
-    }
-    plays::play_on(read, &cells, config, waiting, m)
+    let mut t = Table {
+        states: 1,
+        initial: 0,
+        count: 0,
+        cells: [BLANK; 256],
+    };
+    table_file::read_into(file, &mut t)?;
+    plays::play_on(&t, config, waiting, m)
 }

@@ -1,4 +1,4 @@
--- "Never more wait than the ceiling of greatest d over least u": k waiting responses have k * u < d + u.
+-- Never more than the greatest d over the least u, rounded up, wait: k waiting responses have k * u < d + u.
 use mathlib.Core.Path.{◌≡◌, refl, sym, ap, ◌∙◌}
 use mathlib.Core.Logic.{inl, inr}
 use mathlib.Core.List.{List, [], ◌∷◌, ◌++◌, map}

@@ -62,7 +62,7 @@ module _ (m : Machine) (valid : Valid m) {p : Play} (r : Run m 256 p) where
           lows t ts zero h = least_first t.u ts
           lows t ts (suc i) h = least-is t.u ts i (omega arith)
 
-  -- "So 240 records are always enough"
+  -- so 240 records are always enough
   pub at-most-240 : length p.waiting ≤ 240
   at-most-240 = omega (
     arith,

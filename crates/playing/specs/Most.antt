@@ -1,4 +1,4 @@
--- 02, R-5: "Never more wait than the ceiling of greatest d over least u, or none in an empty table."
+-- Never more wait than the ceiling of greatest d over least u, or none in an empty table.
 use Rattle.std.specs.Prelude.{List, [], ◌∷◌, ℕ, ◌+◌, ◌-◌, ◌/◌, min, max}
 use Rattle.model.specs.Table.{Transition}
 

@@ -80,12 +80,12 @@ pub record Open (q : ℕ) (ts : List Transition) (state letter timer i : ℕ) : 
 -- a sequence of accepted moves from the start
 pub data Run (m : Machine) (q : ℕ) : Play → Type 0 where
   starts : Run m q (begin m)
-  -- "Time advances by at most the time to the next due response"
+  -- time advances by at most the time to the next due response
   waits : {p : Play} (t : ℕ) → Run m q p → ((x : Wait) → In x p.waiting → t ≤ x.left) → Run m q (passed t p)
   -- an input with an open transition, while no response is due
   inputs : {p : Play} (letter i : ℕ) → Run m q p → Open q m.transitions p.state letter p.timer i
       → ((x : Wait) → In x p.waiting → 0 < x.left) → Run m q (taken q i (at m.transitions i) p)
-  -- "an output (the lowest step now due)"
+  -- an output, of the lowest step now due
   outputs : {p : Play} (xs : List Wait) (x : Wait) (ys : List Wait) → Run m q p → p.waiting ≡ xs ++ (x ∷ ys) → x.left ≡ 0 → ((y : Wait) → In y xs
       → 0 < y.left) → Run m q (given xs x ys p)
 

@@ -1,12 +1,14 @@
 -- Two outcomes of one call are equal.
 use mathlib.Core.Path.{◌≡◌, refl, sym, ◌∙◌}
-use mathlib.Core.Bool.{Bool, true, false}
 use mathlib.Core.Logic.{⊎_elim}
 use mathlib.Core.List.{List}
 use Prim.Native.Nat.{ℕ, zero, suc, ◌-◌, ◌≤◌, ◌<◌}
 use native.Mathlib.Nat.{eq-zero-or-pos}
 use native.Mathlib.Omega.{arith}
 use lib.Seq.{ext_get_or}
+use Rattle.std.specs.Prelude.{Option, Some, None}
+use Rattle.table.specs.declared.Row.{Row}
+use Rattle.reach.specs.declared.Ways.{Ways}
 use Rattle.model.specs.Table.{Transition, at}
 use Rattle.reach.specs.Reach.{mark, way_in, Linked, Reach, ReachOutcome, way_to, WayStands}
 use Rattle.reach.proofs.ReachLaws.{mark-least, way-path, way-length}
@@ -33,16 +35,17 @@ module _ {ts : List Transition} {dist via via' : List ℕ} (p : Linked ts dist v
   ways-only : via ≡ via'
   ways-only = ext_get_or 0 via via' (p.ways ∙ sym q.ways) (λ s h. way-in-only s (mark dist s) refl)
 
-pub reach-only : (cells : List ℕ) (count initial : ℕ) (dist₀ via₀ : List ℕ) (b b' : Bool) (dist via dist' via' : List ℕ)
-    → ReachOutcome cells count initial dist₀ via₀ b dist via → ReachOutcome cells count initial dist₀ via₀ b' dist' via'
-    → (b ≡ b') × (dist ≡ dist') × (via ≡ via')
-reach-only cells count initial dist₀ via₀ true true dist via dist' via' p q =
-    let e : dist ≡ dist' = marks-only p.1 q.1 in
-    (refl, e, ways-only (rw e at p.1.linked) q.1.linked)
-reach-only cells count initial dist₀ via₀ true false dist via dist' via' p q = absurd (q.0 p.0)
-reach-only cells count initial dist₀ via₀ false true dist via dist' via' p q = absurd (p.0 q.0)
-reach-only cells count initial dist₀ via₀ false false dist via dist' via' p q = (refl, p.1 ∙ sym q.1, p.2 ∙ sym q.2)
+equal : {dist via dist' via' : List ℕ} → dist ≡ dist' → via ≡ via'
+    → ◌≡◌ {A = Option Ways} (Some (record { dist = dist; via = via })) (Some (record { dist = dist'; via = via' }))
+equal e f = rw (e, f) refl
 
-pub way-only : {cells dist via : List ℕ} {s : ℕ} {trace₀ trace trace' : List ℕ} {n n' : ℕ}
+pub reach-only : (cells : List Row) (count initial : ℕ) (o o' : Option Ways)
+    → ReachOutcome cells count initial o → ReachOutcome cells count initial o' → o ≡ o'
+reach-only cells count initial (Some w) (Some w') p q = equal (marks-only p.1 q.1) (let e = marks-only p.1 q.1 in ways-only (rw e at p.1.linked) q.1.linked)
+reach-only cells count initial (Some w) None p q = absurd (q p.0)
+reach-only cells count initial None (Some w) p q = absurd (p q.0)
+reach-only cells count initial None None p q = refl
+
+pub way-only : {cells : List Row} {dist via : List ℕ} {s : ℕ} {trace₀ trace trace' : List ℕ} {n n' : ℕ}
     → WayStands cells dist via s trace₀ trace n → WayStands cells dist via s trace₀ trace' n' → (n ≡ n') × (trace ≡ trace')
 way-only p q = let e : _ = p.number ∙ sym q.number in (e, p.traced ∙ (rw e (sym q.traced)))

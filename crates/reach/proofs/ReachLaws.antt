@@ -1,11 +1,12 @@
 -- Laws of the marks and the ways in: what they tell of traces, and how a way is written.
 use mathlib.Core.Path.{◌≡◌, refl, sym, ap, ◌∙◌}
-use mathlib.Core.List.{List, [], ◌∷◌, ◌++◌, append-nil, append_assoc}
+use mathlib.Core.List.{List, [], ◌∷◌, ◌++◌, append_assoc}
 use Prim.Native.Nat.{ℕ, zero, suc, ◌+◌, ◌-◌, ◌≤◌, ◌<◌}
 use native.Mathlib.Omega.{arith}
 use borrow.Author.Tests.{lt-ltb, le-ltb}
-use lib.ListN.{length, get_or, set, take, drop, length-append, take-append-drop}
+use lib.ListN.{length, get_or, set, take, drop, length-append}
 use lib.Seq.{take-suc, set_at, length-take-le}
+use Rattle.table.specs.declared.Row.{Row}
 use Rattle.model.specs.Lists.{All, all_nil, all_cons}
 use Rattle.model.specs.Table.{Transition, Valid, at}
 use Rattle.model.specs.Trace.{Trace}
@@ -98,9 +99,6 @@ module _ (t : ℕ → Transition) (via trace₀ : List ℕ) (steps end : ℕ) wh
     pub joined : way_back t via steps end ≡ way_back t via n s ++ rest
     pub stands : trace ≡ take n trace₀ ++ (rest ++ drop steps trace₀)
 
-  pub written_none : Written trace₀ steps end
-  written_none = record { rest = []; joined = sym (append-nil (way_back t via steps end)); stands = sym (take-append-drop steps trace₀) }
-
   pub written-more : (trace : List ℕ) (n s : ℕ) → 1 ≤ n → n ≤ length trace₀ → Written trace n s
       → Written (set trace (n - 1) (way_in via s)) (n - 1) (t (way_in via s)).from
   unfolding way_back
@@ -119,7 +117,7 @@ module _ (t : ℕ → Transition) (via trace₀ : List ℕ) (steps end : ℕ) wh
   written_all trace s w = rw w.joined w.stands
 
 -- which way is written
-module _ (cells dist via : List ℕ) (s places : ℕ) where
+module _ (cells : List Row) (dist via : List ℕ) (s places : ℕ) where
   abbrev whole : List ℕ
   whole = way_back (λ i. said (row_of cells i)) via (mark dist s - 1) s
 
@@ -131,12 +129,7 @@ module _ (cells dist via : List ℕ) (s places : ℕ) where
   unfolding way_within
   within-short h = rw (lt-ltb places (mark dist s - 1) h)
 
-  -- the way to a state without a mark has no step
-  pub within_none : mark dist s ≡ 0 → way_within cells dist via s places ≡ []
-  unfolding way_back
-  within_none e = within-room (omega arith) ∙ (let z : mark dist s - 1 ≡ 0 = omega arith in rw z)
-
-module _ (cells dist via : List ℕ) (s : ℕ) (trace₀ : List ℕ) where
+module _ (cells : List Row) (dist via : List ℕ) (s : ℕ) (trace₀ : List ℕ) where
   -- nothing is written
   pub stands-none : way_within cells dist via s (length trace₀) ≡ [] → WayStands cells dist via s trace₀ trace₀ 0
   stands-none e = record { number = rw e; traced = rw e }
@@ -150,7 +143,7 @@ module _ (cells dist via : List ℕ) (s : ℕ) (trace₀ : List ℕ) where
   }
 
 -- with room for it, the way of the numbers in the cells is the way of the transitions
-module _ {cells : List ℕ} {count : ℕ} (sound : Sound cells count) {dist via : List ℕ} (linked : Linked (rows cells count) dist via) where
+module _ {cells : List Row} {count : ℕ} (sound : Sound cells count) {dist via : List ℕ} (linked : Linked (rows cells count) dist via) where
   pub within-way : (s places : ℕ) → 1 ≤ mark dist s → mark dist s - 1 ≤ places → way_within cells dist via s places ≡ way_to (rows cells count) dist via s
   within-way s places marked room =
       within-room cells dist via s places room
@@ -165,7 +158,7 @@ pub record WayShown (ts : List Transition) (initial : ℕ) (dist via : List ℕ)
   pub few : n ≤ 31
   pub traced : trace ≡ way_to ts dist via s ++ drop n trace₀
 
-module _ {cells : List ℕ} {count : ℕ} (sound : Sound cells count) {initial : ℕ} {dist via : List ℕ} (reach : Reach (rows cells count) initial dist via) where
+module _ {cells : List Row} {count : ℕ} (sound : Sound cells count) {initial : ℕ} {dist via : List ℕ} (reach : Reach (rows cells count) initial dist via) where
   pub way-shown : {s : ℕ} {trace₀ trace : List ℕ} {n : ℕ} → 1 ≤ mark dist s → 31 ≤ length trace₀ → WayStands cells dist via s trace₀ trace n
       → WayShown (rows cells count) initial dist via s trace₀ trace n
   way-shown {s} {trace₀} {trace} {n} marked room w =

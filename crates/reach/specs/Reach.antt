@@ -1,5 +1,7 @@
 -- Which states can be reached, how far each is from the initial one, and the way there.
-use Rattle.std.specs.Prelude.{◌≡◌, Bool, true, false, cond, ◌↔◌, List, [], ◌∷◌, ◌++◌, ℕ, zero, suc, ◌-◌, ◌≤◌, ◌<◌, ltb, length, get_or, drop}
+use Rattle.std.specs.Prelude.{◌≡◌, Option, Some, None, cond, ◌↔◌, List, [], ◌∷◌, ◌++◌, ℕ, zero, suc, ◌-◌, ◌≤◌, ◌<◌, ltb, length, get_or, drop}
+use Rattle.table.specs.declared.Row.{Row}
+use Rattle.reach.specs.declared.Ways.{Ways}
 use Rattle.model.specs.Table.{Transition, at}
 use Rattle.model.specs.Trace.{Reached}
 use Rattle.table.specs.Rows.{rows, row_of, said}
@@ -54,19 +56,19 @@ pub record Reach (ts : List Transition) (initial : ℕ) (dist via : List ℕ) : 
   pub tells : MarksReached ts initial dist
 
 -- what the marks are made for: every number of the transitions within its range, an initial state that has a place
-pub record Admits (cells : List ℕ) (count initial : ℕ) : Type 0 where
+pub record Admits (cells : List Row) (count initial : ℕ) : Type 0 where
   pub sound : Sound cells count
   pub inside : initial < 32
 
 -- the tests of a search through cells that nobody tested, before others: 3, then 4 for as many states as a table can have. Equal transitions are
 -- not looked for: they do no harm to a search.
-abbrev pub after_limits : List ℕ → ℕ → ℕ → List Test → List Test
+abbrev pub after_limits : List Row → ℕ → ℕ → List Test → List Test
 after_limits cells count initial more = unless 3 (count ≤ 256) ∷ unless 4 (Admits cells count initial) ∷ more
 
--- true: the marks and the ways in, whatever stood there; false: nothing is written
-abbrev pub ReachOutcome : List ℕ → ℕ → ℕ → List ℕ → List ℕ → Bool → List ℕ → List ℕ → Type 0
-ReachOutcome cells count initial dist₀ via₀ true dist via = Admits cells count initial × Reach (rows cells count) initial dist via
-ReachOutcome cells count initial dist₀ via₀ false dist via = (Admits cells count initial → ⊥) × (dist ≡ dist₀) × (via ≡ via₀)
+-- the marks and the ways in, or none where a number is outside its range
+abbrev pub ReachOutcome : List Row → ℕ → ℕ → Option Ways → Type 0
+ReachOutcome cells count initial (Some w) = Admits cells count initial × Reach (rows cells count) initial w.dist w.via
+ReachOutcome cells count initial None = Admits cells count initial → ⊥
 
 -- the last n steps of the way to s, by the ways in; t is the transition at a number
 unfoldable pub way_back : (ℕ → Transition) → List ℕ → ℕ → ℕ → List ℕ
@@ -78,10 +80,10 @@ abbrev pub way_to : List Transition → List ℕ → List ℕ → ℕ → List �
 way_to ts dist via s = way_back (at ts) via (mark dist s - 1) s
 
 -- the same by what the numbers name in the cells, whatever the marks; no step where it has no room
-unfoldable pub way_within : List ℕ → List ℕ → List ℕ → ℕ → ℕ → List ℕ
+unfoldable pub way_within : List Row → List ℕ → List ℕ → ℕ → ℕ → List ℕ
 way_within cells dist via s places = cond (ltb places (mark dist s - 1)) [] (way_back (λ i. said (row_of cells i)) via (mark dist s - 1) s)
 
 -- the way to s stands at the front of the trace, n steps; the rest is as it was
-pub record WayStands (cells dist via : List ℕ) (s : ℕ) (trace₀ trace : List ℕ) (n : ℕ) : Type 0 where
+pub record WayStands (cells : List Row) (dist via : List ℕ) (s : ℕ) (trace₀ trace : List ℕ) (n : ℕ) : Type 0 where
   pub number : n ≡ length (way_within cells dist via s (length trace₀))
   pub traced : trace ≡ way_within cells dist via s (length trace₀) ++ drop n trace₀

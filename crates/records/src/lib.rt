@@ -1,193 +1,63 @@
 #![tactic(auto)]
-
-ghost use Rattle.std.specs.Prelude.{◌≡◌, ◌-◌, ◌≤◌, ltb, eqb};
-ghost use Rattle.records.specs.Sweep.{pick, fine_of, seen_of, aged_of, turn_of, within_of, swept_in};
+// The lent list of waiting responses: what is told of those that wait, and what passing time and an output do to them.
+ghost use Rattle.std.specs.Prelude.{◌≡◌, ◌≤◌, ◌<◌, map};
+ghost use Rattle.model.specs.Answers.{Tells};
+ghost use Rattle.model.specs.Lists.{All, Sorted};
+ghost use Rattle.records.specs.Record.{Sane, FirstDueAt, aged_in, closed_in};
 
 // A waiting response: its step, its letter and the time that is left, in 1/256 tick.
-#[derive(Clone, Copy)]
+#[derive(Clone, Copy, PartialEq, Eq, Default)]
 pub struct Pending {
     pub step: u16,
     pub letter: u16,
     pub left: u32,
 }
 
-// What a look over the records has seen: whether they are in order, the greatest step that may stand before, the least time
-// left, and the lowest place that is due with its record.
-#[derive(Clone, Copy)]
-pub struct Seen {
-    pub fine: bool,
-    pub above: u16,
-    pub least: u32,
-    pub due: usize,
-    pub first: Pending,
-}
-
-// What a sweep does: look; take a time off each record; close the gap at a place, up to a last place that keeps its
-// record, with the record that moves down; write a record to a place.
-#[derive(Clone, Copy)]
-pub enum Work {
-    Look(Seen),
-    Age(u32),
-    Close(usize, usize, Pending),
-    Add(usize, Pending),
-}
-
-// What stands at the place next, and the work that goes on.
-#[derive(Clone, Copy)]
-pub struct Turned {
-    pub next: Pending,
-    pub work: Work,
-}
-
-fn in_order(p: Pending, s: Seen) -> bool
-    ensures { result ≡ fine_of p s }
+// Steps rise, from 1 to that of the last input; no time left is above 240 ticks.
+pub fn in_order(waiting: &[Pending], inputs: u16) -> bool
+    ensures { Tells result (Sorted ◌<◌ (map (λ p. p.step) waiting.now) × All (Sane inputs) waiting.now) }
 {
-    if p.step == 0 {
-        return false;
-    }
-    if s.above < p.step {
-        return false;
-    }
-    if 61440 < p.left {
-        return false;
-    }
-    s.fine
-}
-
-fn lower(step: u16) -> u16
-    ensures { result ≡ step - 1 }
-{
-    if step == 0 {
-        return 0;
-    }
-    step - 1
-}
-
-fn lesser(a: u32, b: u32) -> u32
-    ensures { result ≡ pick (ltb a b) a b }
-{
-    if a < b {
-        return a;
-    }
-    b
-}
-
-fn lowest(left: u32, i: usize, due: usize) -> usize
-    ensures { result ≡ pick (eqb left 0) i due }
-{
-    if left == 0 {
-        return i;
-    }
-    due
-}
-
-fn chosen(a: usize, b: usize, p: Pending, q: Pending) -> Pending
-    ensures { result ≡ pick (eqb a b) p q }
-{
-    if a == b {
-        return p;
-    }
-    q
-}
-
-fn look_at(p: Pending, i: usize, s: Seen) -> Seen
-    ensures { result ≡ seen_of p i s }
-{
-    let fine = in_order(p, s);
-    let above = lower(p.step);
-    let least = lesser(p.left, s.least);
-    let due = lowest(p.left, i, s.due);
-    let known = s.first;
-    let first = chosen(p.left as usize, 0, p, known);
-    Seen {
-        fine: fine,
-        above: above,
-        least: least,
-        due: due,
-        first: first,
-    }
-}
-
-fn aged(p: Pending, t: u32) -> Pending
-    ensures { result ≡ aged_of p t }
-{
-    let left = p.left;
-    if left < t {
-        return Pending {
-            step: p.step,
-            letter: p.letter,
-            left: 0,
-        };
-    }
-    Pending {
-        step: p.step,
-        letter: p.letter,
-        left: left - t,
-    }
-}
-
-fn turn(p: Pending, i: usize, w: Work) -> Turned
-    ensures { result ≡ turn_of p i w }
-{
-    match w {
-        Work::Look(s) => {
-            let t = look_at(p, i, s);
-            Turned {
-                next: p,
-                work: Work::Look(t),
-            }
+    // One pass: of is_sorted_by and all the goals stay open.
+    let mut below = 0;
+    for p in waiting {
+        if p.step <= below || inputs < p.step || 61440 < p.left {
+            return false;
         }
-        Work::Age(t) => {
-            let q = aged(p, t);
-            Turned {
-                next: q,
-                work: Work::Age(t),
-            }
-        }
-        Work::Close(at, top, last) => {
-            if at <= i {
-                let q = chosen(i, top, p, last);
-                Turned {
-                    next: q,
-                    work: Work::Close(at, top, p),
-                }
-            } else {
-                Turned {
-                    next: p,
-                    work: Work::Close(at, top, last),
-                }
-            }
-        }
-        Work::Add(at, new) => {
-            let q = chosen(i, at, new, p);
-            Turned {
-                next: q,
-                work: Work::Add(at, new),
-            }
+        below = p.step;
+    }
+    true
+}
+
+// Whether none is due before time t.
+pub fn none_before(waiting: &[Pending], t: u32) -> bool
+    ensures { Tells result (All (λ p. t ≤ p.left) waiting.now) }
+{
+    waiting.iter().all(|p| t <= p.left)
+}
+
+// The place of the first that is due.
+pub fn first_due(waiting: &[Pending]) -> Option<usize>
+    ensures { FirstDueAt waiting.now result }
+{
+    waiting.iter().position(|p| p.left == 0)
+}
+
+// Time t passes for the first n records; for none where fewer are lent.
+pub fn age(list: &mut [Pending], n: usize, t: u32)
+    ensures { list.new ≡ aged_in n t list.old }
+{
+    if n <= list.len() {
+        for p in list[..n].iter_mut() {
+            p.left = p.left.saturating_sub(t);
         }
     }
 }
 
-// How many records a sweep goes through: none where fewer are lent.
-fn within(n: usize, lent: usize) -> usize
-    ensures { (result ≡ within_of n lent) × (result ≤ lent) }
+// The record at `at` is taken out of the first n: those after it move down, and the freed last place keeps what it held.
+pub fn close(list: &mut [Pending], n: usize, at: usize)
+    ensures { list.new ≡ closed_in n at list.old }
 {
-    if n <= lent {
-        return n;
+    if at < n && n <= list.len() {
+        list.copy_within(at + 1..n, at);
     }
-    0
-}
-
-// Each of the first n records goes through one turn, the last first; where fewer are lent, none does.
-pub fn sweep(list: &mut [Pending], mut n: usize, mut work: Work) -> Work
-    ensures { (list.new ≡ (swept_in n list.old work).list) × (result ≡ (swept_in n list.old work).work) }
-{
-    n = within(n, list.len());
-    while 0 < n {
-        n -= 1;
-        let t = turn(list[n], n, work);
-        list[n] = t.next;
-        work = t.work;
-    }
-    work
 }

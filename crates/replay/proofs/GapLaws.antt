@@ -1,11 +1,11 @@
 -- The tests of the gaps, place by place, and what the loop over them knows after i steps.
+use Rattle.table.specs.Refusal.{passing}
 use Rattle.std.proofs.Common.{◌≡◌, ℕ, zero, suc, ◌+◌, ◌<◌, ◌≤◌, ◌⊎◌, ◌↔◌, List, [], ◌∷◌, length, get_or, sym, refl, ◌∙◌, inl, inr, add-one, arith, below_more}
 use Rattle.model.specs.Answers.{Fields}
 use Rattle.model.specs.Table.{Transition, at}
 use Rattle.model.specs.Word.{Fits}
 use Rattle.model.specs.Stamps.{gap_of, gaps_from}
 use Rattle.table.specs.declared.Row.{Row}
-use Rattle.table.specs.declared.Checked.TheVariants.{Sound}
 use Rattle.table.specs.Refusal.{checked_fields}
 use Rattle.table.specs.Rows.{row_of, said, named}
 use Rattle.table.specs.Tests.{Passes, Fails, refuses, answers, Tested}
@@ -80,14 +80,14 @@ pub record Passed (tr : List Transition) (start : ℕ) (stamps : List ℕ) (befo
   pub last : before ≡ get_or (start ∷ stamps) i 0
   pub done : (j : ℕ) → j < i → Fits 256 (at tr j) (get_or (gaps_from start stamps) j 0)
 
-module _ (c trace : List ℕ) (start : ℕ) (stamps : List ℕ) where
+module _ (c : List Row) (trace : List ℕ) (start : ℕ) (stamps : List ℕ) where
   abbrev Told : Fields → Type 0
   Told = Tested (gap_tests 0 (named c trace) (gaps_from start stamps))
 
   pub none_passed : Passed (named c trace) start stamps start 0
   none_passed = record { last = refl; done = λ j h. absurd (omega arith) }
 
-  pub all-passed : {before i : ℕ} → Passed (named c trace) start stamps before i → length trace ≤ i → Told (checked_fields Sound)
+  pub all-passed : {before i : ℕ} → Passed (named c trace) start stamps before i → length trace ≤ i → Told (checked_fields passing)
   all-passed k h = answers ((gaps-law (gaps_from start stamps) (named c trace)).1 (λ j l. k.done j (omega (arith, length-named c trace)))) refl
 
   module _ (e : length stamps ≡ length trace) {before i : ℕ} (k : Passed (named c trace) start stamps before i) (h : i < length trace) where

@@ -36,7 +36,7 @@ module _ (q : ℕ) (t : Transition) (g : ℕ) where
       (λ a. dite (dec_lt (t.v * q) g) (λ b. (Late, ((λ e. omega arith), b))) (λ n. (Inside, record { after = a; within = omega arith })))
       (λ n. (Early, omega arith))
 
-  -- "late means more than v", where u is at most v as in every table that is read
+  -- where u is at most v, as in every table that is read, late is all that is more than v
   pub late-plain : t.u ≤ t.v → TooLate q t g → Meets Late q t g
   late-plain h l = ((λ e. omega (arith, mul-le-mul_right q h)), l)
 

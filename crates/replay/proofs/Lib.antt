@@ -2,7 +2,10 @@ pub mod WordLaws
 pub mod GuardLaws
 pub mod GapLaws
 pub mod HoleLaws
+pub mod FarLaws
 pub mod LaidLaws
 pub mod PlayLaws
 pub mod ReplayLaws
+pub mod ListsLaws
 pub mod OutcomeLaws
+pub mod OnlyLaws

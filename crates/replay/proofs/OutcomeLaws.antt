@@ -1,6 +1,9 @@
 -- Two outcomes that replay's contract allows are equal, and how late a response can be due.
-use Rattle.std.proofs.Common.{◌≡◌, ℕ, ◌<◌, ◌≤◌, List, ◌++◌, map, length, get_or, drop, sym, refl, ap, ◌∙◌, subst, arith}
+use Rattle.table.specs.Refusal.{Checked, passing, checked_fields}
+use Rattle.table.proofs.RefusalLaws.{checked-only}
+use Rattle.std.proofs.Common.{◌≡◌, ℕ, ◌<◌, ◌≤◌, List, ◌++◌, map, length, get_or, drop, sym, ap, ◌∙◌, subst, arith}
 use lib.ListN.{length-map, get_or-append}
+use Rattle.table.specs.declared.Row.{Row}
 use Rattle.model.specs.Answers.{Fields}
 use Rattle.model.specs.Table.{Transition, Machine}
 use Rattle.model.specs.Trace.{steps}
@@ -14,26 +17,16 @@ use Rattle.model.proofs.Paths.{length-steps}
 use Rattle.table.specs.declared.Table.{Table}
 use Rattle.table.specs.Rows.{machine_of}
 use Rattle.table.specs.Tests.{Test, Passes}
-use Rattle.table.proofs.RefusalLaws.{refusal-some, refused-only}
 use Rattle.table.proofs.TestLaws.{Numbered, answered-done, answered-only}
-use Rattle.replay.specs.declared.Replayed.{Replayed}
-use Rattle.replay.specs.declared.Replayed.TheVariants.{Played, Refused}
-use Rattle.replay.specs.Play.{replayed_fields, replay_tests, Plays, PlayOutcome, ReplayOutcome}
-use Rattle.replay.specs.Laid.{Laid, WordRun}
+use Rattle.replay.specs.Play.{replay_tests, Plays, PlayOutcome, ReplayOutcome}
+use Rattle.replay.specs.Laid.{Laid, WordRun, ListsRun}
 use Rattle.replay.proofs.WordLaws.{parts-of}
 use Rattle.replay.proofs.LaidLaws.{conversion-length}
 use Rattle.replay.proofs.ReplayLaws.{replay-numbered, all_first, passed-handed, passed-ranged}
 
--- equal fields: equal answers
-pub replayed-only : (a b : Replayed) → replayed_fields a ≡ replayed_fields b → a ≡ b
-replayed-only Played Played e = refl
-replayed-only Played (Refused s) e = absurd (omega (arith, refusal-some s, ap (λ f. f.status) e))
-replayed-only (Refused r) Played e = absurd (omega (arith, refusal-some r, ap (λ f. f.status) e))
-replayed-only (Refused r) (Refused s) e = ap Refused (refused-only r s e)
-
 -- on values and on bytes: what the answer tells, and that it tells one thing
 module _ {tests : List Test} {tr : List Transition} {w : Word} {order due : List ℕ → Type 0} {Kept : Type 0} where
-  pub played : Numbered tests → PlayOutcome tests tr w order due Kept (replayed_fields Played) → Passes tests × Plays tr w order due
+  pub played : Numbered tests → PlayOutcome tests tr w order due Kept (checked_fields passing) → Passes tests × Plays tr w order due
   played n x = let r = answered-done n (λ h k. omega arith) x in (r.0, r.1.1)
 
   -- one number and its values, and the same memory where it is kept, and where the same numbers stand in it
@@ -60,23 +53,23 @@ module _ (m : Machine) (trace : List ℕ) (start : ℕ) (stamps o₀ d₀ : List
       (x.0, x.1.0, x.1.1)
 
   -- two outcomes that the contract allows for one input are equal, answer and memory
-  pub outcome-only : (r s : Replayed) (o d o' d' : List ℕ) → ReplayOutcome m trace start stamps o₀ d₀ (replayed_fields r) o d
-      → ReplayOutcome m trace start stamps o₀ d₀ (replayed_fields s) o' d' → (r ≡ s) × (o ≡ o') × (d ≡ d')
+  pub outcome-only : (r s : Checked) (o d o' d' : List ℕ) → ReplayOutcome m trace start stamps o₀ d₀ (checked_fields r) o d
+      → ReplayOutcome m trace start stamps o₀ d₀ (checked_fields s) o' d' → (r ≡ s) × (o ≡ o') × (d ≡ d')
   outcome-only r s o d o' d' a b =
       let x = fields-only o d o' d' a b in
-      (replayed-only r s x.0, x.1, x.2)
+      (checked-only r s x.0, x.1, x.2)
 
 -- two table values of one machine are replayed alike
-pub same-replay : (t u : Table) (trace : List ℕ) (start : ℕ) (stamps o₀ d₀ : List ℕ) → machine_of t ≡ machine_of u → (r s : Replayed) (o d o' d' : List ℕ)
-    → ReplayOutcome (machine_of t) trace start stamps o₀ d₀ (replayed_fields r) o d
-    → ReplayOutcome (machine_of u) trace start stamps o₀ d₀ (replayed_fields s) o' d' → (r ≡ s) × (o ≡ o') × (d ≡ d')
+pub same-replay : (t u : Table) (trace : List ℕ) (start : ℕ) (stamps o₀ d₀ : List ℕ) → machine_of t ≡ machine_of u → (r s : Checked) (o d o' d' : List ℕ)
+    → ReplayOutcome (machine_of t) trace start stamps o₀ d₀ (checked_fields r) o d
+    → ReplayOutcome (machine_of u) trace start stamps o₀ d₀ (checked_fields s) o' d' → (r ≡ s) × (o ≡ o') × (d ≡ d')
 same-replay t u trace start stamps o₀ d₀ e r s o d o' d' a b =
     outcome-only (machine_of u) trace start stamps o₀ d₀ r s o d o' d'
-    (subst (λ m. ReplayOutcome m trace start stamps o₀ d₀ (replayed_fields r) o d) e a) b
+    (subst (λ m. ReplayOutcome m trace start stamps o₀ d₀ (checked_fields r) o d) e a) b
 
 -- what a replayed word leaves in the two buffers
 module _ (m : Machine) (trace : List ℕ) (start : ℕ) (stamps o₀ d₀ o d : List ℕ)
-    (outcome : ReplayOutcome m trace start stamps o₀ d₀ (replayed_fields Played) o d) where
+    (outcome : ReplayOutcome m trace start stamps o₀ d₀ (checked_fields passing) o d) where
   abbrev tr : List Transition
   tr = steps m.transitions trace
 
@@ -117,11 +110,11 @@ module _ (m : Machine) (trace : List ℕ) (start : ℕ) (stamps o₀ d₀ o d : 
       (get_or-append (map g plays.responses) (drop (length trace) b₀) 0 i (omega arith)
       ∙ get_or-map g z 0 plays.responses i (omega (arith, plays-length)) ∙ ap g r)
 
-  -- "Replay gives steps .. counted from 1"
+  -- the steps that replay lists count from 1
   pub steps-within : (i : ℕ) → i < length trace → (1 ≤ get_or o i 0) × (get_or o i 0 ≤ length trace)
   steps-within i h = omega (arith, filled (λ x. x.step) o o₀ plays.orders i h, known i h, length-steps m.transitions trace)
 
-  -- "its due time in 1/256 tick since the start (at most 536,801,280)"
+  -- a due time, in 1/256 tick since the start: 512 gaps of 4,095 ticks and 240 ticks at most
   pub dues-within : (i : ℕ) → i < length trace → get_or d i 0 ≤ 536801280
   dues-within i h =
       rw (filled (λ x. x.time) d d₀ plays.dues i h)
@@ -136,8 +129,15 @@ laid-only {time} {n} x y =
     (x.orders ∙ rw e (sym y.orders), x.dues ∙ rw e (sym y.dues))
 
 -- two runs of one word are equal: its answer, the order and the due times
-pub word-run-only : {cells trace : List ℕ} {start : ℕ} {stamps o₀ d₀ : List ℕ} {f g : Fields} {o d o' d' : List ℕ} → WordRun cells trace start stamps o₀ d₀ f o d
+pub word-run-only : {cells : List Row} {trace : List ℕ} {start : ℕ} {stamps o₀ d₀ : List ℕ} {f g : Fields} {o d o' d' : List ℕ} → WordRun cells trace start stamps o₀ d₀ f o d
     → WordRun cells trace start stamps o₀ d₀ g o' d' → (f ≡ g) × (o ≡ o') × (d ≡ d')
 word-run-only {f = f} {g = g} {o} {d} {o'} {d'} x y =
     answered-only {R = (f ≡ g) × (o ≡ o') × (d ≡ d')} (λ e k l. (e, k.0 ∙ sym l.0, k.1 ∙ sym l.1))
     (λ p q. let l = laid-only p.1 q.1 in (p.0 ∙ sym q.0, l.0, l.1)) x.says y.says
+
+-- and two answers over lists however they stand in memory
+pub lists-run-only : (cells : List Row) (T S : Type 0) (trace : List ℕ) (start : ℕ) (stamps o₀ d₀ : List ℕ) (f g : Fields) (o d o' d' : List ℕ)
+    → ListsRun cells T S trace start stamps o₀ d₀ f o d → ListsRun cells T S trace start stamps o₀ d₀ g o' d' → (f ≡ g) × (o ≡ o') × (d ≡ d')
+lists-run-only cells T S trace start stamps o₀ d₀ f g o d o' d' x y =
+    answered-only {R = (f ≡ g) × (o ≡ o') × (d ≡ d')} (λ e k l. (e, k.0 ∙ sym l.0, k.1 ∙ sym l.1))
+    (λ p q. let l = laid-only p.1 q.1 in (p.0 ∙ sym q.0, l.0, l.1)) x y

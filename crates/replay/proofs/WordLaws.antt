@@ -22,7 +22,7 @@ pub length-gaps : (s : ℕ) (l : List ℕ) → length (gaps_from s l) ≡ length
 length-gaps s [] = refl
 length-gaps s (x ∷ l) = ap suc (length-gaps x l)
 
--- "a gap is the difference of successive stamps", the start standing before the first
+-- a gap by stamps that follow each other, the start standing before the first
 pub gaps-at : (s : ℕ) (l : List ℕ) (i : ℕ) → i < length l → get_or (gaps_from s l) i 0 ≡ gap_of (get_or (s ∷ l) i 0) (get_or l i 0)
 gaps-at s [] i h = absurd (omega arith)
 gaps-at s (x ∷ l) zero h = refl

@@ -1,4 +1,4 @@
--- "The guard test should answer inside, early or late instead of yes or no, as should every caller that passes it on" (02, R-6).
+-- The guard test answers inside, early or late, and so does every caller that passes it on.
 use Rattle.std.specs.Prelude.{ℕ}
 use Rattle.model.specs.Answers.{Fields, fields}
 use Rattle.model.specs.Table.{Transition}
@@ -12,7 +12,7 @@ Meets Inside q t g = Fits q t g
 Meets Early q t g = TooEarly q t g
 Meets Late q t g = (TooEarly q t g → ⊥) × TooLate q t g
 
--- its number, and the step that it names: "9 now means early, and 12, in the same place of the order, means late"
+-- its number, and the step that it names: early is 9, late is 12, in the same place of the order
 abbrev pub guard_fields : Guard → ℕ → Fields
 guard_fields Inside step = fields 0 0 0 0
 guard_fields Early step = fields 9 step 0 0

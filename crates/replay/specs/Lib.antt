@@ -1,3 +1,4 @@
 pub mod Guards
 pub mod Play
 pub mod Laid
+pub mod OnPlaces

@@ -6,19 +6,12 @@ use Rattle.model.specs.Trace.{Handed, steps}
 use Rattle.model.specs.Word.{Word, Activates}
 use Rattle.model.specs.Order.{Response, Conversion}
 use Rattle.model.specs.Stamps.{gaps_from, word_from}
-use Rattle.table.specs.Refusal.{refused_fields}
 use Rattle.table.specs.Tests.{Test, unless, unless_at, Answered, after_table}
 use Rattle.replay.specs.declared.Guard.{Guard}
 use Rattle.replay.specs.declared.Guard.TheVariants.{Early, Late}
-use Rattle.replay.specs.declared.Replayed.{Replayed}
-use Rattle.replay.specs.declared.Replayed.TheVariants.{Played, Refused}
 use Rattle.replay.specs.Guards.{Meets, guard_fields}
 
-abbrev pub replayed_fields : Replayed → Fields
-replayed_fields Played = fields 0 0 0 0
-replayed_fields (Refused r) = refused_fields r
-
--- "number of stamps differs from number of steps"; "replay needs one place per step in each of two buffers"
+-- 7 unless there is a stamp for each step, 8 unless there is a place for each step in both buffers
 abbrev pub own_tests : Machine → List ℕ → List ℕ → List ℕ → List ℕ → List Test
 own_tests m trace stamps order₀ due₀ =
     unless 6 (Handed m.transitions trace) ∷
@@ -29,7 +22,7 @@ own_tests m trace stamps order₀ due₀ =
 abbrev pub unless_met : Guard → ℕ → Transition → ℕ → Test
 unless_met c step t g = unless_at (guard_fields c step).status (guard_fields c step).first (Meets c 256 t g → ⊥)
 
--- "a gap outside its guard", two tests a step from place i on, early and late: the "first such step" is named, counted from 1
+-- the gaps against their guards, two tests a step from place i on, early and late: the first step outside its guard is named, counted from 1
 abbrev pub gap_tests : ℕ → List Transition → List ℕ → List Test
 gap_tests i [] gaps = []
 gap_tests i (t ∷ tr) gaps = unless_met Early (suc i) t (slice_index gaps i) ∷ unless_met Late (suc i) t (slice_index gaps i) ∷ gap_tests (suc i) tr gaps
@@ -38,7 +31,7 @@ abbrev pub replay_tests : Machine → List ℕ → ℕ → List ℕ → List ℕ
 replay_tests m trace start stamps order₀ due₀ =
     after_table m (own_tests m trace stamps order₀ due₀ ++ gap_tests 0 (steps m.transitions trace) (gaps_from start stamps))
 
--- "Replay gives steps in response order, counted from 1, and beside each its due time": the word activates the trace, and of its conversion the
+-- the steps in the order of their responses, counted from 1, and their due times: the word activates the trace, and of its conversion the
 -- steps stand as `order` says, the due times as `due` says
 pub record Plays (tr : List Transition) (w : Word) (order due : List ℕ → Type 0) : Type 0 where
   pub activates : Activates tr w
@@ -51,10 +44,25 @@ pub record Plays (tr : List Transition) (w : Word) (order due : List ℕ → Typ
 abbrev pub PlayOutcome : List Test → List Transition → Word → (List ℕ → Type 0) → (List ℕ → Type 0) → Type 0 → Fields → Type 0
 PlayOutcome tests tr w order due Kept f = Answered tests (λ f. (f ≡ fields 0 0 0 0) × Plays tr w order due) Kept f
 
--- on values: the steps and the due times, each then what stood there; "A refusal .. writes nothing"
+-- on values: the steps and the due times, each then what stood there; a refusal writes nothing
 abbrev pub ReplayOutcome : Machine → List ℕ → ℕ → List ℕ → List ℕ → List ℕ → Fields → List ℕ → List ℕ → Type 0
 ReplayOutcome m trace start stamps order₀ due₀ f order due =
     PlayOutcome (replay_tests m trace start stamps order₀ due₀) (steps m.transitions trace) (word_from (steps m.transitions trace) start stamps)
+    (λ l. order ≡ l ++ drop (length trace) order₀)
+    (λ l. due ≡ l ++ drop (length trace) due₀)
+    ((order ≡ order₀) × (due ≡ due₀)) f
+
+-- with a valid table, of the numbers that stand in the lists; T and S say that trace and stamps are whole numbers alone
+abbrev pub lists_tests : Machine → Type 0 → Type 0 → List ℕ → ℕ → List ℕ → List ℕ → List ℕ → List Test
+lists_tests m T S trace start stamps order₀ due₀ =
+    unless 6 (T × Handed m.transitions trace) ∷
+    unless 7 (S × (length stamps ≡ length trace)) ∷
+    unless 8 ((length trace ≤ length order₀) × (length trace ≤ length due₀)) ∷
+    gap_tests 0 (steps m.transitions trace) (gaps_from start stamps)
+
+abbrev pub ListsOutcome : Machine → Type 0 → Type 0 → List ℕ → ℕ → List ℕ → List ℕ → List ℕ → Fields → List ℕ → List ℕ → Type 0
+ListsOutcome m T S trace start stamps order₀ due₀ f order due =
+    PlayOutcome (lists_tests m T S trace start stamps order₀ due₀) (steps m.transitions trace) (word_from (steps m.transitions trace) start stamps)
     (λ l. order ≡ l ++ drop (length trace) order₀)
     (λ l. due ≡ l ++ drop (length trace) due₀)
     ((order ≡ order₀) × (due ≡ due₀)) f

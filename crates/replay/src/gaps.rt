@@ -1,27 +1,29 @@
 // The gaps of a word against the guards of a trace. Nothing here stores.
-ghost use Rattle.std.specs.Prelude.{◌≡◌, ◌*◌, ◌<◌, length, slice_index};
+ghost use Rattle.std.specs.Prelude.{◌≡◌, ◌*◌, ◌<◌, length, get_or};
 ghost use Rattle.model.specs.Stamps.{gap_of, gaps_from};
 ghost use Rattle.table.specs.Refusal.{checked_fields};
 ghost use Rattle.table.specs.Rows.{row_of, said, named};
 ghost use Rattle.table.specs.Tests.{Tested};
 ghost use Rattle.replay.specs.Guards.{Meets, guard_fields};
+ghost use Rattle.replay.specs.Laid.{word_tests};
 ghost use Rattle.replay.specs.Play.{gap_tests};
 
 use crate::Guard;
-use table::{Cells, Checked, Refusal, Row};
+use layout::Layout;
+use table::{Refusal, Row};
 
 // Ticks in 1/256 tick.
 pub(crate) fn parts(ticks: u16) -> u32
     ensures { result ≡ ticks * 256 }
 {
-    (ticks as u32) * 256
+    u32::from(ticks) * 256
 }
 
 // From one stamp to the next, on a counter that wraps.
 pub(crate) fn gap(before: u32, stamp: u32) -> u32
     ensures { result ≡ gap_of before stamp }
 {
-    std::num::wrapping_sub_u32(stamp, before)
+    stamp.wrapping_sub(before)
 }
 
 // Where a gap stands to a guard, early at most u, late more than v: no other place compares a gap with a guard.
@@ -38,39 +40,69 @@ pub fn test_guard(r: Row, gap: u32) -> Guard
 }
 
 // What a step's guard tells a call: nothing, or the refusal that names the step.
-fn passed_on(g: Guard, step: usize) -> Checked
+fn passed_on(g: Guard, step: usize) -> Result<(), Refusal>
     ensures { checked_fields result ≡ guard_fields g step }
 {
     match g {
-        Guard::Inside => Checked::Sound,
-        Guard::Early => Checked::Refused(Refusal::Early(step)),
-        Guard::Late => Checked::Refused(Refusal::Late(step)),
+        Guard::Inside => Ok(()),
+        Guard::Early => Err(Refusal::Early(step)),
+        Guard::Late => Err(Refusal::Late(step)),
     }
 }
 
 // The transition of the step at i.
-fn step_row(cells: &Cells, trace: &[u16], i: usize) -> Row
-    requires { i < length trace.now }
-    ensures { result ≡ row_of cells.now (slice_index trace.now i) }
+// Over any layout; `words::step` is total, on a slice.
+fn step_row<T: Layout<u16>>(rows: &[Row], trace: &[T::Cell], i: usize) -> Row
+    requires { i < length (T.list trace.now) }
+    ensures { result ≡ row_of rows.now (get_or (T.list trace.now) i 0) }
 {
-    table::row_of(cells, trace[i] as usize)
+    table::row_of(rows, usize::from(T::at(trace, i)))
 }
 
 // The refusal of the first step whose gap is outside its guard, if there is one.
-pub(crate) fn first_outside(cells: &Cells, trace: &[u16], start: u32, stamps: &[u32]) -> Checked
-    requires { length stamps.now ≡ length trace.now }
-    ensures { Tested (gap_tests 0 (named cells.now trace.now) (gaps_from start stamps.now)) (checked_fields result) }
+fn first_outside<T: Layout<u16>, S: Layout<u32>>(
+    rows: &[Row],
+    trace: &[T::Cell],
+    start: u32,
+    stamps: &[S::Cell],
+) -> Result<(), Refusal>
+    requires { length (S.list stamps.now) ≡ length (T.list trace.now) }
+    ensures { Tested (gap_tests 0 (named rows.now (T.list trace.now)) (gaps_from start (S.list stamps.now))) (checked_fields result) }
 {
     let mut before = start;
-    let mut i: usize = 0;
-    while i < trace.len() {
-        let stamp = stamps[i];
-        let met = test_guard(step_row(cells, trace, i), gap(before, stamp));
+    for i in 0..T::len(trace) {
+        let stamp = S::at(stamps, i);
+        let met = test_guard(step_row::<T>(rows, trace, i), gap(before, stamp));
         let Guard::Inside = met else {
             return passed_on(met, i + 1);
         };
         before = stamp;
-        i += 1;
     }
-    Checked::Sound
+    Ok(())
+}
+
+// The lengths and the gaps of a word on transitions that nobody tested, with so many places for its order and its due times.
+pub fn judge_on<T: Layout<u16>, S: Layout<u32>>(
+    rows: &[Row],
+    trace: &[T::Cell],
+    start: u32,
+    stamps: &[S::Cell],
+    orders: usize,
+    dues: usize,
+) -> Result<(), Refusal>
+    ensures { Tested
+        (word_tests rows.now (T.list trace.now) start (S.list stamps.now) orders dues)
+        (checked_fields result) }
+{
+    let n = T::len(trace);
+    if 512 < n {
+        return Err(Refusal::NoTrace);
+    }
+    if S::len(stamps) != n {
+        return Err(Refusal::Uneven);
+    }
+    if orders < n || dues < n {
+        return Err(Refusal::NoRoom);
+    }
+    first_outside::<T, S>(rows, trace, start, stamps)
 }

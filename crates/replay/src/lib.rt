@@ -4,23 +4,19 @@ ghost use Rattle.std.specs.Prelude.{◌≡◌, ◌+◌, ◌*◌, ◌%◌, ◌^�
 ghost use Rattle.model.specs.Stamps.{gap_of};
 ghost use Rattle.table.specs.Refusal.{checked_fields};
 ghost use Rattle.table.specs.Rows.{row_of, machine_of};
-ghost use Rattle.table.specs.Tests.{after_table, Tested};
-ghost use Rattle.replay.specs.Laid.{word_tests, WordRun};
-ghost use Rattle.replay.specs.Play.{replayed_fields, own_tests, ReplayOutcome};
+ghost use Rattle.table.specs.Tests.{Tested};
+ghost use Rattle.replay.specs.Laid.{word_tests, WordRun, ListsRun};
+ghost use Rattle.replay.specs.OnPlaces.{OnPlaces};
+ghost use Rattle.replay.specs.Play.{ReplayOutcome};
 
-use table::{Cells, Checked, Refusal, Table};
+use layout::{Fours, Layout, Plain, Twos};
+use table::{Refusal, Row, Table};
 
 pub mod gaps;
 mod responses;
 
-#[derive(Clone, Copy)]
-pub enum Replayed {
-    Played,
-    Refused(Refusal),
-}
-
 // Where a gap stands to the guard of its step.
-#[derive(Clone, Copy)]
+#[derive(Clone, Copy, PartialEq, Eq)]
 pub enum Guard {
     Inside,
     Early,
@@ -34,116 +30,137 @@ pub struct Moment {
     pub due: u32,
 }
 
-// The tests that look at no gap, in rising order of their numbers.
-fn tested(t: Table, trace: &[u16], stamps: &[u32], order: &[u16], due: &[u32]) -> Checked
-    ensures { Tested
-        (after_table (machine_of t) (own_tests (machine_of t) trace.now stamps.now order.now due.now))
-        (checked_fields result) }
-{
-    let checked = trace::tested_trace(t.states, t.initial, t.count, &t.cells, trace);
-    if let Checked::Refused(r) = checked {
-        return Checked::Refused(r);
-    }
-    if stamps.len() != trace.len() {
-        return Checked::Refused(Refusal::Uneven);
-    }
-    if order.len() < trace.len() {
-        return Checked::Refused(Refusal::NoRoom);
-    }
-    if due.len() < trace.len() {
-        return Checked::Refused(Refusal::NoRoom);
-    }
-    Checked::Sound
-}
-
 // The lengths and the gaps of a word on transitions that nobody tested, with so many places for its order and its due times.
 pub fn judge_word(
-    cells: &Cells,
+    rows: &[Row],
     trace: &[u16],
     start: u32,
     stamps: &[u32],
     orders: usize,
     dues: usize,
-) -> Checked
+) -> Result<(), Refusal>
     ensures { Tested
-        (word_tests cells.now trace.now start stamps.now orders dues)
+        (word_tests rows.now trace.now start stamps.now orders dues)
         (checked_fields result) }
 {
-    let n = trace.len();
-    if 512 < n {
-        return Checked::Refused(Refusal::NoTrace);
-    }
-    if stamps.len() != n {
-        return Checked::Refused(Refusal::Uneven);
-    }
-    if orders < n {
-        return Checked::Refused(Refusal::NoRoom);
-    }
-    if dues < n {
-        return Checked::Refused(Refusal::NoRoom);
-    }
-    gaps::first_outside(cells, trace, start, stamps)
+    gaps::judge_on::<Plain, Plain>(rows, trace, start, stamps, orders, dues)
 }
 
 // When a step of that transition arrives and when it is due, by the arrival and the stamp before it, on a counter that wraps.
-pub fn timed(cells: &Cells, step: u16, arrival: u32, before: u32, stamp: u32) -> Moment
+pub fn timed(rows: &[Row], step: u16, arrival: u32, before: u32, stamp: u32) -> Moment
     ensures { (result.arrival ≡ (arrival + gap_of before stamp) % 2 ^ 32)
-        × (result.due ≡ (result.arrival + (row_of cells.now step).d * 256) % 2 ^ 32) }
+        × (result.due ≡ (result.arrival + (row_of rows.now step).d * 256) % 2 ^ 32) }
 {
-    let row = table::row_of(cells, step as usize);
-    let arrives = std::num::wrapping_add_u32(arrival, gaps::gap(before, stamp));
+    let row = table::row_of(rows, usize::from(step));
+    let arrives = arrival.wrapping_add(gaps::gap(before, stamp));
     Moment {
         arrival: arrives,
-        due: std::num::wrapping_add_u32(arrives, gaps::parts(row.d)),
+        due: arrives.wrapping_add(gaps::parts(row.d)),
     }
 }
 
-// One word on transitions that nobody tested: its steps laid out, or refused and nothing written.
+// One word on transitions that nobody tested, however its lists stand in memory: its steps laid out, or refused and nothing written.
+pub fn play_word_on<T: Layout<u16>, S: Layout<u32>, O: Layout<u16>, D: Layout<u32>>(
+    rows: &[Row],
+    trace: &[T::Cell],
+    start: u32,
+    stamps: &[S::Cell],
+    order: &mut [O::Cell],
+    due: &mut [D::Cell],
+) -> Result<(), Refusal>
+    ensures run { WordRun rows.now (T.list trace.now) start (S.list stamps.now) (O.list order.old) (D.list due.old)
+        (checked_fields result) (O.list order.new) (D.list due.new) }
+    ensures order_rest { O.beside order.new ≡ O.beside order.old }
+    ensures due_rest { D.beside due.new ≡ D.beside due.old }
+{
+    gaps::judge_on::<T, S>(rows, trace, start, stamps, O::len(order), D::len(due))?;
+    responses::play::<T, S, O, D>(rows, trace, start, stamps, order, due);
+    Ok(())
+}
+
+// The same of numbers as the machine has them.
 pub fn play_word(
-    cells: &Cells,
+    rows: &[Row],
     trace: &[u16],
     start: u32,
     stamps: &[u32],
     order: &mut [u16],
     due: &mut [u32],
-) -> Replayed
+) -> Result<(), Refusal>
     ensures { WordRun
-        cells.now trace.now start stamps.now order.old due.old
-        (replayed_fields result) order.new due.new }
+        rows.now trace.now start stamps.now order.old due.old
+        (checked_fields result) order.new due.new }
 {
-    let told = judge_word(cells, trace, start, stamps, order.len(), due.len());
-    if let Checked::Refused(r) = told {
-        return Replayed::Refused(r);
-    }
-    responses::play(cells, trace, start, stamps, order, due);
-    Replayed::Played
+    play_word_on::<Plain, Plain, Plain, Plain>(rows, trace, start, stamps, order, due)
+}
+
+// The same within two byte buffers: a step number in two bytes, a due time in four.
+pub fn play_word_bytes(
+    rows: &[Row],
+    trace: &[u16],
+    start: u32,
+    stamps: &[u32],
+    order: &mut [u8],
+    due: &mut [u8],
+) -> Result<(), Refusal>
+    ensures { OnPlaces
+        (λ o₀ d₀ o d. WordRun rows.now trace.now start stamps.now o₀ d₀ (checked_fields result) o d)
+        order.old due.old order.new due.new }
+{
+    play_word_on::<Plain, Plain, Twos, Fours>(rows, trace, start, stamps, order, due)
 }
 
 // The mark of a word: the step that its refusal names, or 0. As 16 bits show it: no word has more than 512 steps.
-pub fn mark(r: Replayed) -> u16
-    ensures { result ≡ (replayed_fields r).first % 2 ^ 16 }
+pub fn mark(r: Result<(), Refusal>) -> u16
+    ensures { result ≡ (checked_fields r).first % 2 ^ 16 }
 {
     match r {
-        Replayed::Played => 0,
-        Replayed::Refused(x) => (table::place(x) % 65536) as u16,
+        Ok(()) => 0,
+        Err(x) => (x.place() % 65536) as u16,
     }
+}
+
+// After the tests of the table: the list a trace, the lengths, then the word, however the lists stand in memory.
+pub fn replay_on<T: Layout<u16>, S: Layout<u32>, O: Layout<u16>, D: Layout<u32>>(
+    rows: &[Row],
+    trace: &[T::Cell],
+    start: u32,
+    stamps: &[S::Cell],
+    order: &mut [O::Cell],
+    due: &mut [D::Cell],
+) -> Result<(), Refusal>
+    ensures run { ListsRun rows.now (T.whole trace.now) (S.whole stamps.now)
+        (T.list trace.now) start (S.list stamps.now) (O.list order.old) (D.list due.old)
+        (checked_fields result) (O.list order.new) (D.list due.new) }
+    ensures order_rest { O.beside order.new ≡ O.beside order.old }
+    ensures due_rest { D.beside due.new ≡ D.beside due.old }
+{
+    if !T::is_whole(trace) || !trace::is_trace_on::<T>(rows, trace) {
+        return Err(Refusal::NoTrace);
+    }
+    let n = T::len(trace);
+    if !S::is_whole(stamps) || S::len(stamps) != n {
+        return Err(Refusal::Uneven);
+    }
+    if O::len(order) < n || D::len(due) < n {
+        return Err(Refusal::NoRoom);
+    }
+    play_word_on::<T, S, O, D>(rows, trace, start, stamps, order, due)
 }
 
 // Steps in response order, counted from 1, and beside each its due time in 1/256 tick since the start.
 pub fn replay(
-    t: Table,
+    t: &Table,
     trace: &[u16],
     start: u32,
     stamps: &[u32],
     order: &mut [u16],
     due: &mut [u32],
-) -> Replayed
+) -> Result<(), Refusal>
     ensures { ReplayOutcome
-        (machine_of t) trace.now start stamps.now order.old due.old
-        (replayed_fields result) order.new due.new }
+        (machine_of t.now) trace.now start stamps.now order.old due.old
+        (checked_fields result) order.new due.new }
 {
-    if let Checked::Refused(r) = tested(t, trace, stamps, order, due) {
-        return Replayed::Refused(r);
-    }
-    play_word(&t.cells, trace, start, stamps, order, due)
+    table::check(t)?;
+    replay_on::<Plain, Plain, Plain, Plain>(t.rows(), trace, start, stamps, order, due)
 }

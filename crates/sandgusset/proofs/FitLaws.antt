@@ -65,7 +65,7 @@ gaps-fit : (i : ℕ) (tr : List Transition) (gaps : List ℕ) → i + length tr 
 gaps-fit i [] gaps h = tt
 gaps-fit i (t ∷ tr) gaps h = (omega arith, omega arith, λ e. (omega arith, omega arith, λ g. gaps-fit (suc i) tr gaps (omega arith)))
 
--- "The longest file has 4,620 bytes."
+-- a file that is read has at most 4,620 bytes
 file-few : (file : List ℕ) → Bytes file → (m : Machine) → read_file file ≡ machine m → length file ≤ 4620
 file-few file b m e = let k = sound file m b e in omega (arith, k.0.few, ap length k.1, length-file m)
 

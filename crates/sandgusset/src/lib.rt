@@ -12,7 +12,7 @@ pub extern "C" fn sandgusset_judge(file: &[u8], trace: &mut [u8], stamps: &mut [
     ensures { JudgeAnswer file.now trace.old stamps.old result trace.new stamps.new }
 {
     let a = verdict_bytes::judge_table_bytes(file, trace, stamps);
-    answers::on_table(a)
+    answers::pack(a)
 }
 
 // Whether a table file keeps request order.
@@ -21,7 +21,7 @@ pub extern "C" fn sandgusset_order(file: &[u8], trace: &mut [u8], stamps: &mut [
     ensures { OrderAnswer file.now trace.old stamps.old result trace.new stamps.new }
 {
     let a = order_bytes::order_table_bytes(file, trace, stamps);
-    answers::on_order(a)
+    answers::pack(a)
 }
 
 // The verdict on a trace.
@@ -47,7 +47,7 @@ pub extern "C" fn sandgusset_replay(
         result order.new due.new }
 {
     let a = on_bytes::replay_bytes(file, trace, start, stamps, order, due);
-    answers::replayed(a)
+    answers::pack(a)
 }
 
 // Replay of up to 256 timed words on one trace.
@@ -65,7 +65,7 @@ pub extern "C" fn sandgusset_replay_words(
         order.old due.old marks.old result order.new due.new marks.new }
 {
     let a = night_bytes::replay_words_bytes(file, trace, starts, stamps, order, due, marks);
-    answers::on_words(a)
+    answers::pack(a)
 }
 
 // Reads a table file and writes it.
@@ -74,7 +74,7 @@ pub extern "C" fn sandgusset_rewrite(file: &[u8], out: &mut [u8]) -> u64
     ensures { RewriteAnswer file.now out.old result out.new }
 {
     let a = on_bytes::rewrite_bytes(file, out);
-    answers::written(a)
+    answers::pack(a)
 }
 
 // Starts the player on a table file.

@@ -1,36 +1,20 @@
 // A file that is read and written back, and a table as a value.
+use crate::text::{at_most, narrow, part, word_at};
 use std::io;
-use table::{Checked, Table};
-use table_file::Written;
-
-// Whether the first n bytes are the file's.
-fn say_alike(rt: &impl Print, out: &[u8], n: usize, file: &[u8]) -> io::Result<()> {
-    saying::say(rt, b"read, ")?;
-    saying::number(rt, n)?;
-    if check::same(crate::text::part(out, 0, n), file) {
-        saying::say(rt, b" bytes written back alike\n")
-    } else {
-        saying::say(rt, b" bytes written back UNLIKE\n")
-    }
-}
+use table::Table;
 
 // Writes the table that was read, and compares with the file.
-fn say_back(rt: &impl Print, t: Table, out: &mut [u8], file: &[u8]) -> io::Result<()> {
-    let w = table_file::write_table(t, out);
-    match w {
-        Written::Refused(r) => crate::rest::say_refused(rt, r),
-        Written::Bytes(n) => say_alike(rt, out, n, file),
-    }
-}
-
-fn read(rt: &impl Print, file: &[u8]) -> io::Result<()> {
-    let a = table_file::read_table(file);
-    let r = a.answer;
-    match r {
-        Checked::Refused(x) => crate::rest::say_refused(rt, x),
-        Checked::Sound => {
-            let mut out = [0xa5u8; 4700];
-            say_back(rt, a.table, &mut out, file)
+fn say_back(rt: &impl Print, t: &Table, file: &[u8]) -> io::Result<()> {
+    let mut out = [0xa5u8; 4700];
+    match table_file::write_table(t, &mut out) {
+        Err(r) => println!(rt; "{r}"),
+        Ok(n) => {
+            let alike = if part(&out, 0, n) == file {
+                "alike"
+            } else {
+                "UNLIKE"
+            };
+            println!(rt; "read, {n} bytes written back {alike}")
         }
     }
 }
@@ -38,21 +22,26 @@ fn read(rt: &impl Print, file: &[u8]) -> io::Result<()> {
 // `file`: its length in bytes, a place, how many numbers, and these of two bytes each, stored from that place on over the file before.
 pub(crate) fn read_file(rt: &impl Print, numbers: &[u32], file: &mut [u8]) -> io::Result<()> {
     let mut values = [0u16; 4096];
-    crate::text::narrow(numbers, 3, &mut values);
-    let n = crate::text::at_most(numbers, 2, 4096);
-    wire::put_twos(file, saying::time_at(numbers, 1), &values[..n]);
-    let size = saying::time_at(numbers, 0);
-    if size <= file.len() {
-        read(rt, &file[..size])?;
+    narrow(numbers, 3, &mut values);
+    let n = at_most(numbers, 2, 4096);
+    // There is no From of u32 for usize.
+    wire::put(file, word_at(numbers, 1) as usize, &values[..n]);
+    let size = word_at(numbers, 0) as usize;
+    if file.len() < size {
+        return Ok(());
     }
-    Ok(())
+    let file = &file[..size];
+    let read = table_file::read_table(file);
+    match read.answer {
+        Err(r) => println!(rt; "{r}"),
+        Ok(()) => say_back(rt, &read.table, file),
+    }
 }
 
 // `check`: the table as a value.
-pub(crate) fn check_value(rt: &impl Print, t: Table) -> io::Result<()> {
-    let c = table::check(t);
-    match c {
-        Checked::Refused(r) => crate::rest::say_refused(rt, r),
-        Checked::Sound => saying::say(rt, b"sound\n"),
+pub(crate) fn check_value(rt: &impl Print, t: &Table) -> io::Result<()> {
+    match table::check(t) {
+        Err(r) => println!(rt; "{r}"),
+        Ok(()) => println!(rt; "sound"),
     }
 }

@@ -9,17 +9,27 @@ mod text;
 mod verdicts;
 
 use std::io;
-use table::Table;
+use table::{BLANK, Row, Table};
+use text::{short_at, word_at};
 
-// `table`: states, initial state, number of transitions, then cells, stored over the first ones of the table before.
-fn changed(t: Table, numbers: &[u32]) -> Table {
-    let mut cells = t.cells;
-    text::narrow(numbers, 3, &mut cells);
-    Table {
-        states: text::short_at(numbers, 0),
-        initial: text::short_at(numbers, 1),
-        count: saying::time_at(numbers, 2),
-        cells,
+// `table`: states, initial state, number of transitions, then the transitions' numbers, seven each, over the first ones of the table before. Where
+// they end within a transition its other numbers stay.
+fn change(t: &mut Table, numbers: &[u32]) {
+    t.states = short_at(numbers, 0, 0);
+    t.initial = short_at(numbers, 1, 0);
+    // There is no From of u32 for usize.
+    t.count = word_at(numbers, 2) as usize;
+    for (i, r) in t.cells.iter_mut().enumerate() {
+        let k = 3 + i * 7;
+        *r = Row {
+            from: short_at(numbers, k, r.from),
+            input: short_at(numbers, k + 1, r.input),
+            output: short_at(numbers, k + 2, r.output),
+            to: short_at(numbers, k + 3, r.to),
+            u: short_at(numbers, k + 4, r.u),
+            v: short_at(numbers, k + 5, r.v),
+            d: short_at(numbers, k + 6, r.d),
+        };
     }
 }
 
@@ -28,28 +38,28 @@ fn answer(
     rt: &impl Print,
     name: &[u8],
     letter: u8,
-    t: Table,
+    t: &mut Table,
     numbers: &[u32],
     file: &mut [u8],
-) -> io::Result<Table> {
+) -> io::Result<()> {
     if letter == b't' {
-        return Ok(changed(t, numbers));
+        change(t, numbers);
+        return Ok(());
     }
-    saying::say(rt, name)?;
-    saying::say(rt, b" ")?;
+    rt.write_all(name)?;
+    print!(rt; " ")?;
     match letter {
-        b'f' => files::read_file(rt, numbers, file)?,
-        b'c' => files::check_value(rt, t)?,
-        b'p' => plays::play(rt, t, numbers)?,
-        b'n' => nights::play_words(rt, t, numbers)?,
-        b'j' => verdicts::judge_steps(rt, t, numbers)?,
-        b's' => verdicts::judge_short(rt, t, numbers)?,
-        b'w' => verdicts::judge_whole(rt, false, t, numbers)?,
-        b'o' => verdicts::judge_whole(rt, true, t, numbers)?,
-        b'l' => verdicts::least_unsteady(rt, t)?,
-        _ => saying::say(rt, b"UNKNOWN\n")?,
+        b'f' => files::read_file(rt, numbers, file),
+        b'c' => files::check_value(rt, t),
+        b'p' => plays::play(rt, t, numbers),
+        b'n' => nights::play_words(rt, t, numbers),
+        b'j' => verdicts::judge_steps(rt, t, numbers),
+        b's' => verdicts::judge_short(rt, t, numbers),
+        b'w' => verdicts::judge_whole(rt, t, numbers),
+        b'o' => verdicts::judge_order(rt, t, numbers),
+        b'l' => verdicts::least_unsteady(rt, t),
+        _ => println!(rt; "UNKNOWN"),
     }
-    Ok(t)
 }
 
 fn cases(rt: &impl Print, all: &[u8], file: &mut [u8], list: &mut [u32]) -> io::Result<()> {
@@ -57,31 +67,26 @@ fn cases(rt: &impl Print, all: &[u8], file: &mut [u8], list: &mut [u32]) -> io::
         states: 1,
         initial: 0,
         count: 0,
-        cells: [0u16; 1792],
+        cells: [BLANK; 256],
     };
     let mut at: usize = 0;
+    // Each case says where the next begins.
     while at < all.len() {
         let name = text::past(all, at, b' ');
         let colon = text::past(all, name, b':');
-        let r = text::numbers(all, colon, list);
-        let letter = all[at];
-        let n = r.count;
-        let end = r.end;
-        if list.len() < n {
+        let read = text::numbers(all, colon, list);
+        if list.len() < read.count || read.end <= at {
             return Ok(());
         }
-        if end <= at {
-            return Ok(());
-        }
-        t = answer(
+        answer(
             rt,
             text::part(all, name, colon),
-            letter,
-            t,
-            &list[..n],
+            all[at],
+            &mut t,
+            &list[..read.count],
             file,
         )?;
-        at = end;
+        at = read.end;
     }
     Ok(())
 }
@@ -92,7 +97,5 @@ pub fn run(rt: &(impl Input + Print)) -> io::Result<()>
 {
     let mut all = [0u8; 40960];
     let n = saying::read_full(&mut rt.reader(), &mut all)?;
-    let mut file = [0u8; 4700];
-    let mut list = [0u32; 4096];
-    cases(rt, &all[..n], &mut file, &mut list)
+    cases(rt, &all[..n], &mut [0u8; 4700], &mut [0u32; 4096])
 }

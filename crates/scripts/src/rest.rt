@@ -1,31 +1,10 @@
-// What the calls leave in the memory that they are lent, and what several of them print.
+// What the calls leave in the memory that they are lent: whether the rest of it is as it was.
+use crate::text::behind;
 use std::io;
-use table::Refusal;
 
-pub(crate) fn say_refused(rt: &impl Print, r: Refusal) -> io::Result<()> {
-    saying::refusal(rt, r)?;
-    saying::say(rt, b"\n")
-}
-
-// Whether the places from n on, and from k on, are as they were lent; no case lends 1,200.
+// The places from n on, and from k on, are as they were lent.
 fn kept(steps: &[u16], n: usize, times: &[u32], k: usize) -> bool {
-    for i in 0..1200 {
-        if n <= i {
-            if i < steps.len() {
-                if steps[i] != 65535 {
-                    return false;
-                }
-            }
-        }
-        if k <= i {
-            if i < times.len() {
-                if times[i] != 65535 {
-                    return false;
-                }
-            }
-        }
-    }
-    true
+    behind(steps, n).iter().all(|&x| x == 65535) && behind(times, k).iter().all(|&x| x == 65535)
 }
 
 pub(crate) fn say_rest(
@@ -36,9 +15,9 @@ pub(crate) fn say_rest(
     k: usize,
 ) -> io::Result<()> {
     if kept(steps, n, times, k) {
-        saying::say(rt, b", rest kept\n")
+        println!(rt; ", rest kept")
     } else {
-        saying::say(rt, b", rest CHANGED\n")
+        println!(rt; ", rest CHANGED")
     }
 }
 

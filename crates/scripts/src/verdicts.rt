@@ -1,26 +1,28 @@
 // Verdicts on traces and on tables, and whether a table keeps request order.
 ghost use Rattle.std.specs.Prelude.{◌<◌};
 
+use crate::rest::say_rest;
+use crate::text::{at_most, behind, narrow};
+use saying::at;
 use std::io;
-use table::Table;
+use table::{Refusal, Table};
 use table_order::OnOrder;
 use table_verdict::OnTable;
 use verdict::OnTrace;
 
-fn say_on_trace(rt: &impl Print, v: OnTrace) -> io::Result<()> {
+fn say_on_trace(rt: &impl Print, v: Result<OnTrace, Refusal>) -> io::Result<()> {
     match v {
-        OnTrace::Refused(r) => saying::refusal(rt, r),
-        OnTrace::Steady => saying::say(rt, b"steady"),
-        OnTrace::Turning(k, m) => saying::pair(rt, b"turning", k, m),
+        Err(r) => print!(rt; "{r}"),
+        Ok(OnTrace::Steady) => print!(rt; "steady"),
+        Ok(OnTrace::Turning(k, m)) => print!(rt; "turning {k} {m}"),
     }
 }
 
 // The words that are shown.
 fn say_stamps(rt: &impl Print, stamps: &[u32], n: usize) -> io::Result<()> {
-    saying::say(rt, b",")?;
+    print!(rt; ",")?;
     for i in 0..n {
-        saying::say(rt, b" ")?;
-        saying::number(rt, saying::time_at(stamps, i))?;
+        print!(rt; " {}", at(stamps, i, 0))?;
     }
     Ok(())
 }
@@ -31,73 +33,63 @@ fn twice(n: usize) -> usize {
 }
 
 // What a verdict on a trace of n steps answered and left.
-fn say_judged(rt: &impl Print, v: OnTrace, n: usize, stamps: &[u32]) -> io::Result<()> {
-    let none = [0u16];
+fn say_judged(
+    rt: &impl Print,
+    v: Result<OnTrace, Refusal>,
+    n: usize,
+    stamps: &[u32],
+) -> io::Result<()> {
     say_on_trace(rt, v)?;
-    if let OnTrace::Turning(_, _) = v {
+    // A case is asked for, not its numbers.
+    if let Ok(OnTrace::Turning(_, _)) = v {
         say_stamps(rt, stamps, twice(n))?;
-        crate::rest::say_rest(rt, &none[..0], 0, stamps, twice(n))
+        say_rest(rt, &[], 0, stamps, twice(n))
     } else {
-        crate::rest::say_rest(rt, &none[..0], 0, stamps, 0)
+        say_rest(rt, &[], 0, stamps, 0)
     }
-}
-
-fn judge_in(rt: &impl Print, t: Table, trace: &[u16], stamps: &mut [u32]) -> io::Result<()> {
-    let v = verdict::judge_trace(t, trace, stamps);
-    say_judged(rt, v, trace.len(), stamps)
 }
 
 // `judge`: places for stamps, number of steps, the trace.
-pub(crate) fn judge_steps(rt: &impl Print, t: Table, numbers: &[u32]) -> io::Result<()> {
+pub(crate) fn judge_steps(rt: &impl Print, t: &Table, numbers: &[u32]) -> io::Result<()> {
     let mut steps = [0u16; 600];
-    crate::text::narrow(numbers, 2, &mut steps);
-    let n = crate::text::at_most(numbers, 1, 600);
+    narrow(numbers, 2, &mut steps);
+    let n = at_most(numbers, 1, 600);
     let mut stamps = [65535u32; 1100];
-    let room = crate::text::at_most(numbers, 0, 1100);
-    judge_in(rt, t, &steps[..n], &mut stamps[..room])
+    let stamps = &mut stamps[..at_most(numbers, 0, 1100)];
+    let v = verdict::judge_trace(t, &steps[..n], stamps);
+    say_judged(rt, v, n, stamps)
 }
 
 // `steps`: number of steps, the trace; the verdict alone is shown.
-pub(crate) fn judge_short(rt: &impl Print, t: Table, numbers: &[u32]) -> io::Result<()> {
+pub(crate) fn judge_short(rt: &impl Print, t: &Table, numbers: &[u32]) -> io::Result<()> {
     let mut steps = [0u16; 600];
-    crate::text::narrow(numbers, 1, &mut steps);
-    let n = crate::text::at_most(numbers, 0, 600);
-    let mut stamps = [0u32; 1200];
-    let v = verdict::judge_trace(t, &steps[..n], &mut stamps);
-    say_on_trace(rt, v)?;
-    saying::say(rt, b"\n")
+    narrow(numbers, 1, &mut steps);
+    let n = at_most(numbers, 0, 600);
+    say_on_trace(rt, verdict::judge_trace(t, &steps[..n], &mut [0u32; 1200]))?;
+    println!(rt)
 }
 
 // The verdict on the trace of n steps 0, 1 again and again, 2.
-fn judge_ended(t: Table, n: usize) -> OnTrace
+fn judge_ended(t: &Table, n: usize) -> Result<OnTrace, Refusal>
     requires { (0 < n) × (n < 200) }
 {
-    let mut stamps = [0u32; 400];
     let mut trace = [1u16; 200];
     trace[0] = 0;
     trace[n - 1] = 2;
-    verdict::judge_trace(t, &trace[..n], &mut stamps)
+    verdict::judge_trace(t, &trace[..n], &mut [0u32; 400])
 }
 
 // `least`: of these traces the least that is not steady; a trace without 2 has like delays throughout.
-pub(crate) fn least_unsteady(rt: &impl Print, t: Table) -> io::Result<()> {
+pub(crate) fn least_unsteady(rt: &impl Print, t: &Table) -> io::Result<()> {
     for n in 2..200 {
         let v = judge_ended(t, n);
-        let OnTrace::Steady = v else {
-            saying::number(rt, n)?;
-            saying::say(rt, b" steps, ")?;
+        let Ok(OnTrace::Steady) = v else {
+            print!(rt; "{n} steps, ")?;
             say_on_trace(rt, v)?;
-            saying::say(rt, b"\n")?;
-            return Ok(());
+            return println!(rt);
         };
     }
     Ok(())
-}
-
-fn say_transition(rt: &impl Print, step: usize, trace: &[u16], stamps: &[u32]) -> io::Result<()> {
-    saying::number(rt, saying::step_at(trace, step))?;
-    saying::say(rt, b" at ")?;
-    saying::number(rt, saying::time_at(stamps, step))
 }
 
 // A step of m, counted from 1: its transition and its stamps in the late and in the early word.
@@ -111,13 +103,9 @@ fn say_turned(
     if step == 0 {
         return Ok(());
     }
-    saying::say(rt, b", ")?;
-    say_transition(rt, step - 1, trace, stamps)?;
-    saying::say(rt, b" or ")?;
-    saying::number(
-        rt,
-        saying::time_at(crate::text::behind(stamps, m), step - 1),
-    )
+    let i = step - 1;
+    let early = at(behind(stamps, m), i, 0);
+    print!(rt; ", {} at {} or {early}", at(trace, i, 0), at(stamps, i, 0))
 }
 
 // The steps of a split and its last stamp.
@@ -125,93 +113,93 @@ fn say_split(rt: &impl Print, n: usize, trace: &[u16], stamps: &[u32]) -> io::Re
     if n == 0 {
         return Ok(());
     }
-    saying::say(rt, b", ")?;
-    saying::number(rt, n)?;
-    saying::say(rt, b" steps, last ")?;
-    say_transition(rt, n - 1, trace, stamps)
+    let i = n - 1;
+    print!(rt;
+        ", {n} steps, last {} at {}",
+        at(trace, i, 0),
+        at(stamps, i, 0)
+    )
 }
 
 // What a verdict on a table answered and left.
-fn say_whole(rt: &impl Print, v: OnTable, trace: &[u16], stamps: &[u32]) -> io::Result<()> {
+fn say_whole(
+    rt: &impl Print,
+    v: Result<OnTable, Refusal>,
+    trace: &[u16],
+    stamps: &[u32],
+) -> io::Result<()> {
     match v {
-        OnTable::Refused(r) => {
-            saying::refusal(rt, r)?;
-            crate::rest::say_rest(rt, trace, 0, stamps, 0)
+        Err(r) => {
+            print!(rt; "{r}")?;
+            say_rest(rt, trace, 0, stamps, 0)
         }
-        OnTable::Strict => {
-            saying::say(rt, b"strict")?;
-            crate::rest::say_rest(rt, trace, 0, stamps, 0)
+        Ok(OnTable::Strict) => {
+            print!(rt; "strict")?;
+            say_rest(rt, trace, 0, stamps, 0)
         }
-        OnTable::Split(i, j, n) => {
-            saying::pair(rt, b"split", i, j)?;
+        Ok(OnTable::Split(i, j, n)) => {
+            print!(rt; "split {i} {j}")?;
             say_split(rt, n, trace, stamps)?;
-            crate::rest::say_rest(rt, trace, n, stamps, n)
+            say_rest(rt, trace, n, stamps, n)
         }
-        OnTable::Turning(k, m) => {
-            saying::pair(rt, b"turning", k, m)?;
+        Ok(OnTable::Turning(k, m)) => {
+            print!(rt; "turning {k} {m}")?;
             say_turned(rt, k, m, trace, stamps)?;
             say_turned(rt, m, m, trace, stamps)?;
-            crate::rest::say_rest(rt, trace, m, stamps, twice(m))
+            say_rest(rt, trace, m, stamps, twice(m))
         }
     }
 }
 
 // The transition at a step counted from 1.
-fn at_step(trace: &[u16], step: usize) -> usize {
-    if step == 0 {
-        0
-    } else {
-        saying::step_at(trace, step - 1)
-    }
+fn at_step(trace: &[u16], step: usize) -> u16 {
+    if step == 0 { 0 } else { at(trace, step - 1, 0) }
 }
 
 // What was answered about the order and left: transitions at K and M, the early word.
-fn say_order(rt: &impl Print, v: OnOrder, trace: &[u16], stamps: &[u32]) -> io::Result<()> {
+fn say_order(
+    rt: &impl Print,
+    v: Result<OnOrder, Refusal>,
+    trace: &[u16],
+    stamps: &[u32],
+) -> io::Result<()> {
     match v {
-        OnOrder::Refused(r) => {
-            saying::refusal(rt, r)?;
-            crate::rest::say_rest(rt, trace, 0, stamps, 0)
+        Err(r) => {
+            print!(rt; "{r}")?;
+            say_rest(rt, trace, 0, stamps, 0)
         }
-        OnOrder::InOrder => {
-            saying::say(rt, b"in order")?;
-            crate::rest::say_rest(rt, trace, 0, stamps, 0)
+        Ok(OnOrder::InOrder) => {
+            print!(rt; "in order")?;
+            say_rest(rt, trace, 0, stamps, 0)
         }
-        OnOrder::Overtaken(k, m) => {
-            saying::pair(rt, b"overtaken", k, m)?;
-            saying::say(rt, b", ")?;
-            saying::pair(rt, b"transitions", at_step(trace, k), at_step(trace, m))?;
+        Ok(OnOrder::Overtaken(k, m)) => {
+            print!(rt;
+                "overtaken {k} {m}, transitions {} {}",
+                at_step(trace, k),
+                at_step(trace, m)
+            )?;
             say_stamps(rt, stamps, m)?;
-            crate::rest::say_rest(rt, trace, m, stamps, m)
+            say_rest(rt, trace, m, stamps, m)
         }
     }
 }
 
-fn judge_whole_in(
-    rt: &impl Print,
-    order: bool,
-    t: Table,
-    trace: &mut [u16],
-    stamps: &mut [u32],
-) -> io::Result<()> {
-    if order {
-        let v = table_order::order_table(t, trace, stamps);
-        say_order(rt, v, trace, stamps)
-    } else {
-        let v = table_verdict::judge_table(t, trace, stamps);
-        say_whole(rt, v, trace, stamps)
-    }
-}
-
-// `whole`, or `order`: places for the trace, places for stamps.
-pub(crate) fn judge_whole(
-    rt: &impl Print,
-    order: bool,
-    t: Table,
-    numbers: &[u32],
-) -> io::Result<()> {
+// `whole`: places for the trace, places for stamps.
+pub(crate) fn judge_whole(rt: &impl Print, t: &Table, numbers: &[u32]) -> io::Result<()> {
     let mut trace = [65535u16; 300];
     let mut stamps = [65535u32; 600];
-    let room = crate::text::at_most(numbers, 0, 300);
-    let late = crate::text::at_most(numbers, 1, 600);
-    judge_whole_in(rt, order, t, &mut trace[..room], &mut stamps[..late])
+    let trace = &mut trace[..at_most(numbers, 0, 300)];
+    let stamps = &mut stamps[..at_most(numbers, 1, 600)];
+    let v = table_verdict::judge_table(t, trace, stamps);
+    say_whole(rt, v, trace, stamps)
+}
+
+// `order`: the same. One function for both would take the call and its words as two more parameters, and be no plainer.
+pub(crate) fn judge_order(rt: &impl Print, t: &Table, numbers: &[u32]) -> io::Result<()> {
+    let mut trace = [65535u16; 300];
+    let mut stamps = [65535u32; 600];
+    let trace = &mut trace[..at_most(numbers, 0, 300)];
+    let stamps = &mut stamps[..at_most(numbers, 1, 600)];
+    let v = table_order::order_table(t, trace, stamps);
+    say_order(rt, v, trace, stamps)
 }

@@ -1,21 +1,28 @@
 -- Laws of the soonest ends.
 use mathlib.Core.Path.{◌≡◌, refl, ap, ◌∙◌}
-use mathlib.Core.Bool.{Bool, true, false, ◌||◌}
-use mathlib.Core.Logic.{dite}
+use mathlib.Core.Bool.{Bool, true, false}
+use mathlib.Core.Logic.{dite, ◌↔◌}
 use mathlib.Core.List.{List, [], ◌∷◌, ◌++◌}
 use Prim.Native.Nat.{ℕ, zero, suc, ◌+◌, min, ◌≤◌, ◌<◌}
 use native.Mathlib.Decide.{ℕ_discrete, dec_lt}
 use native.Mathlib.Omega.{arith}
-use borrow.Author.Count.{below_more}
 use lib.ListN.{length, get_or, set, length-set}
 use lib.Seq.{get_or-set_same, get_or-set_other}
+use Rattle.std.specs.Prelude.{Option, Some, None}
+use Rattle.table.specs.declared.Row.{Row}
+use Rattle.table.specs.Rows.{row_at, blank, transitions}
+use Rattle.table.specs.declared.fit.Fit.{Fit}
+use Rattle.table.proofs.RowLaws.{length-rows}
+use Rattle.table.proofs.FitLaws.{fit-sound}
+use Rattle.walks.proofs.WalkLaws.{seen}
+use Rattle.walks.proofs.StartLaws.{not-marked, lowest-sound}
 use Rattle.model.specs.Lists.{total}
 use Rattle.model.specs.Table.{Transition, at}
 use Rattle.model.specs.Trace.{Trace, steps}
 use Rattle.model.specs.Span.{span}
 use Rattle.model.proofs.CriterionLaws.{above-is}
 use Rattle.criterion.specs.declared.Goal.TheVariants.{Overtakes}
-use Rattle.walks.specs.Walks.{Seen, Followed, Starts}
+use Rattle.walks.specs.Walks.{Seen, Followed, Starts, Least, LowestStart}
 use Rattle.soonest.specs.Soonest.{Due, Settled, SettledTo, Real, Soonest, Lowered}
 
 abbrev all : List ℕ → ℕ
@@ -114,25 +121,41 @@ module _ {ts : List Transition} where
 abbrev pub Round : List Transition → List ℕ → ℕ → Bool → List ℕ → Type 0
 Round ts l₀ i any l = Real ts l × Lowered ts (SettledTo ts i) l₀ any l
 
-pub round-none : {ts : List Transition} {l : List ℕ} → Real ts l → Round ts l 0 false l
-round-none r = (r, (refl, λ j h. absurd (omega arith)))
-
-pub round-more : (ts : List Transition) (l₀ : List ℕ) (i : ℕ) (any less : Bool) {l l' : List ℕ} → Round ts l₀ i any l
-    → Lowered ts (Settled (at ts i)) l less l' → Round ts l₀ (i + 1) (any || less) l'
-round-more ts l₀ i false false r w = rw w.0 (r.0, (r.1.0, below_more _ i r.1.1 (rw r.1.0 at w.1)))
-round-more ts l₀ i true false r w = rw w.0 r
-round-more ts l₀ i false true r w = (w.0, (w.0, omega (arith, w.1, ap all r.1.0)))
-round-more ts l₀ i true true r w = (w.0, (w.0, omega (arith, w.1, r.1.1)))
-
-pub round-all : (ts : List Transition) (l₀ : List ℕ) (i n : ℕ) (any : Bool) {l : List ℕ} → i ≡ n → Round ts l₀ i any l → Lowered ts (SettledTo ts n) l₀ any l
-round-all ts l₀ i n any e r = rw e at r.1
-
 -- what a round tells
 pub round-done : (ts : List Transition) (n : ℕ) (l₀ : List ℕ) (r : Bool) {l : List ℕ} → r ≡ false → length ts ≡ n → Real ts l₀ → Lowered ts (SettledTo ts n) l₀ r l
     → Soonest ts l
 round-done ts n l₀ false e q z w = rw w.0 (settled-soonest q z w.1)
 round-done ts n l₀ true e q z w = let x : ◌≡◌ {A = ℕ} 0 1 = cc in absurd (omega arith)
 
-pub round-less : (ts : List Transition) (n : ℕ) (l₀ : List ℕ) (r : Bool) {l : List ℕ} → r ≡ true → Lowered ts (SettledTo ts n) l₀ r l → Real ts l × (all l < all l₀)
-round-less ts n l₀ true e w = w
-round-less ts n l₀ false e w = let x : ◌≡◌ {A = ℕ} 0 1 = cc in absurd (omega arith)
+-- what the code tests of a row: it leaves a marked state, and an end after it is due before its own response
+abbrev Sooner : List ℕ → List ℕ → Row → Type 0
+Sooner dist l r = (get_or dist r.from 0 ≡ 0 → ⊥) × (get_or l r.to 0 < r.d)
+
+-- the first row of which it holds, by the places
+abbrev pub FoundAt : List Row → List ℕ → List ℕ → Option ℕ → Type 0
+FoundAt c dist l (Some k) = (k < length c) × Sooner dist l (row_at c k) × ((x : ℕ) (r : Row) → x < k → Sooner dist l (get_or c x r) → ⊥)
+FoundAt c dist l None = (x : ℕ) (r : Row) → x < length c → Sooner dist l (get_or c x r) → ⊥
+
+module _ (f : Fit) (dist : List ℕ) {l : List ℕ} (soon : Soonest (transitions f.rows.now) l) where
+  sooner-law : (k : ℕ) → k < length f.rows.now → Sooner dist l (row_at f.rows.now k) ↔ Starts Overtakes (transitions f.rows.now) dist k
+  sooner-law k h =
+      let t = row_at f.rows.now k in
+      let z = seen f k h in (
+        λ p. starts-here soon z (omega (arith, p.0)) p.1,
+        λ s. (
+          λ e. not-marked z Overtakes dist e s,
+          dite (dec_lt (get_or l t.to 0) t.d) (λ b. b) (λ n. absurd (not-sooner soon z (omega arith) s.after)),
+        ),
+      )
+
+  found_least : (r : Option ℕ) → FoundAt f.rows.now dist l r → Least (Starts Overtakes (transitions f.rows.now) dist) r
+  found_least (Some k) p = ((sooner-law k p.0).0 p.1, λ x h s. p.2 x blank h ((sooner-law x (omega (arith, p.0))).1 s))
+  found_least None p = λ x s.
+      let h : x < length f.rows.now = omega (arith, s.arrives.known, length-rows f.rows.now (length f.rows.now)) in
+      p x blank h ((sooner-law x h).1 s)
+
+-- and so the answer for the slice that was tested
+pub found_lowest : (f : Fit) {c : List Row} → f.rows.now ≡ c → (dist : List ℕ) {l : List ℕ} → Soonest (transitions f.rows.now) l → (r : Option ℕ) → FoundAt c dist l r
+    → LowestStart Overtakes c (length c) dist r
+found_lowest f e dist soon r h =
+    rw (← e) (lowest-sound Overtakes f.rows.now (length f.rows.now) dist (fit-sound f) r (found_least f dist soon r (rw (← e) at h)))

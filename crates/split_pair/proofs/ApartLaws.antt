@@ -8,15 +8,14 @@ use native.Mathlib.Decide.{ℕ_discrete}
 use native.Mathlib.Nat.{eq-or-lt_of_le}
 use native.Mathlib.Omega.{arith}
 use lib.ListN.{length, get_or, set, replicate, length-set, get_or-replicate}
+use Rattle.std.proofs.lemmas.Bool.{both_ways}
 use lib.Seq.{get_or-set_same, get_or-set_other}
+use Rattle.table.specs.declared.Row.{Row}
 use Rattle.model.specs.Table.{at}
 use Rattle.model.specs.Verdict.{SplitPair}
 use Rattle.table.specs.Rows.{rows}
 use Rattle.table.proofs.RowLaws.{length-rows}
 use Rattle.split_pair.specs.Split.{Apart, MarkedPair}
-
-not-both : {b : Bool} → b ≡ true → b ≡ false → ⊥
-not-both p q = let z : ◌≡◌ {A = ℕ} 0 1 = cc in omega arith
 
 -- the first i of the places f are taken, those alone, and each is another
 pub record Taken (f : ℕ → ℕ) (i : ℕ) (l : List Bool) : Type 0 where
@@ -30,7 +29,7 @@ module _ (f : ℕ → ℕ) where
   taken_none = record {
     size = refl;
     each = λ x h. absurd (omega arith);
-    alone = λ k h e. absurd (not-both e (get_or-replicate 256 k false false h));
+    alone = λ k h e. absurd (both_ways _ (get_or-replicate 256 k false false h) e);
     apart = λ x y h g. absurd (omega arith);
   }
 
@@ -48,7 +47,7 @@ module _ (f : ℕ → ℕ) where
       alone = λ p b g. dite (ℕ_discrete p k) (λ (q : p ≡ k). (i, omega arith, sym (q ∙ place)))
           (λ n. let w = t.alone p b (sym (get_or-set_other l k p true false n) ∙ g) in (w.0, omega (arith, w.1), w.2));
       apart = λ x y h g. ⊎_elim
-          (λ (q : y ≡ i). λ s. not-both (t.each x (omega arith)) (ap (λ (p : ℕ). get_or l p false) (s ∙ ap f q ∙ sym place) ∙ e))
+          (λ (q : y ≡ i). λ s. both_ways _ (ap (λ (p : ℕ). get_or l p false) (s ∙ ap f q ∙ sym place) ∙ e) (t.each x (omega arith)))
           (λ (b : y < i). t.apart x y h b) (eq-or-lt_of_le (omega arith));
     }
       where
@@ -56,7 +55,7 @@ module _ (f : ℕ → ℕ) where
         here = get_or-set_same l k true false (omega (arith, t.size))
 
 -- transitions with places of their own: none is a split pair with another
-module _ {c : List ℕ} {n : ℕ} (a : Apart c n) where
+module _ {c : List Row} {n : ℕ} (a : Apart c n) where
   forks-not : (i j : ℕ) → i < j → j < length (rows c n) → (at (rows c n) j).from ≡ (at (rows c n) i).from → (at (rows c n) j).input ≡ (at (rows c n) i).input → ⊥
   forks-not i j h g s t = a.apart i j h (omega (arith, length-rows c n)) (rw (s, t))
 

@@ -1,5 +1,5 @@
 // What is kept of the walks from a state to their ends.
-ghost use Rattle.std.specs.Prelude.{◌≡◌, ◌≤◌, max};
+ghost use Rattle.std.specs.Prelude.{◌≡◌, ◌≤◌};
 ghost use Rattle.model.specs.Answers.{Tells};
 ghost use Rattle.table.specs.Rows.{said};
 ghost use Rattle.starts.specs.Kept.{cap, Taken, Joined, Ended, Asked};
@@ -14,20 +14,12 @@ pub(crate) struct Entry {
     pub second: u16,
 }
 
-fn greater(x: u16, y: u16) -> u16
-    ensures { result ≡ max x y }
-{
-    if x < y { y } else { x }
-}
-
 // At most 240 ticks: more can't matter, since no delay is longer.
 fn capped(x: u32) -> u16
     ensures { result ≡ cap x }
 {
-    if 61440 <= x {
-        return 61440;
-    }
-    x as u16
+    // Nothing is cut off: that is proved, and TryFrom would ask what to do if it were.
+    x.min(61440) as u16
 }
 
 // One more end.
@@ -36,22 +28,20 @@ fn taken(a: Entry, x: u16, letter: u8) -> Entry
 {
     if letter == a.letter {
         return Entry {
-            first: greater(a.first, x),
-            letter: a.letter,
-            second: a.second,
+            first: a.first.max(x),
+            ..a
         };
     }
     if a.first < x {
         return Entry {
             first: x,
-            letter: letter,
+            letter,
             second: a.first,
         };
     }
     Entry {
-        first: a.first,
-        letter: a.letter,
-        second: greater(a.second, x),
+        second: a.second.max(x),
+        ..a
     }
 }
 
@@ -63,7 +53,7 @@ pub(crate) fn joined(a: Entry, n: Entry, gap: u32) -> Entry
     if n.first == 0 {
         return a;
     }
-    let r = taken(a, capped(n.first as u32 + gap), n.letter);
+    let r = taken(a, capped(u32::from(n.first) + gap), n.letter);
     if n.second == 0 {
         return r;
     }
@@ -72,9 +62,8 @@ pub(crate) fn joined(a: Entry, n: Entry, gap: u32) -> Entry
         return r;
     }
     Entry {
-        first: r.first,
-        letter: r.letter,
-        second: greater(r.second, capped(n.second as u32 + gap)),
+        second: r.second.max(capped(u32::from(n.second) + gap)),
+        ..r
     }
 }
 
@@ -83,12 +72,13 @@ pub(crate) fn ended(a: Entry, t: Row, left: usize) -> Entry
     requires { t.output ≤ 255 }
     ensures { Ended a (said t) left result }
 {
-    if left < t.d as usize {
+    if left < usize::from(t.d) {
         return a;
     }
+    // Nothing is cut off: that is proved, and TryFrom would ask what to do if it were.
     taken(
         a,
-        capped(words::late_gap(t) + (t.d as u32) * 256),
+        capped(words::late_gap(t) + u32::from(t.d) * 256),
         t.output as u8,
     )
 }
@@ -97,15 +87,10 @@ pub(crate) fn ended(a: Entry, t: Row, left: usize) -> Entry
 pub(crate) fn asked(k: Row, a: Entry) -> bool
     ensures { Tells result (Asked (said k) a) }
 {
-    let due = (k.d as u32) * 256;
-    if k.output == a.letter as u16 {
-        if (a.second as u32) < due {
-            return false;
-        }
-        return true;
+    let due = u32::from(k.d) * 256;
+    if k.output == u16::from(a.letter) {
+        due <= u32::from(a.second)
+    } else {
+        due <= u32::from(a.first)
     }
-    if (a.first as u32) < due {
-        return false;
-    }
-    true
 }

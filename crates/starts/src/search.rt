@@ -2,99 +2,80 @@
 ghost use Rattle.std.specs.Prelude.{◌≡◌, ◌*◌, ◌<◌, ◌≤◌, length};
 ghost use Rattle.model.specs.Answers.{Tells};
 ghost use Rattle.criterion.specs.declared.Goal.TheVariants.{Turns};
-ghost use Rattle.table.specs.Fit.{Sound};
-ghost use Rattle.table.specs.Rows.{rows, said};
+ghost use Rattle.table.specs.Rows.{transitions, said};
 ghost use Rattle.walks.specs.Walks.{Least, Starts};
 ghost use Rattle.starts.specs.Rows.{Blank, MoreRows, Covers, Ready};
 
 use crate::kept::asked;
-use crate::sums::{entry, fill, row};
-use table::{Cells, Row};
-use walks::Found;
+use crate::sums::{entry, fill};
+use reach::{Marks, mark_of};
+use table::Row;
+use table::fit::Fit;
 
 // The greater of n and the delay of t, if t leaves a marked state.
-fn rows_with(dist: &[u16; 32], t: Row, n: usize) -> usize
+// A maximum under a condition.
+fn rows_with(dist: &Marks, t: Row, n: usize) -> usize
     ensures { MoreRows dist.now (said t) n result }
 {
-    let d = t.d as usize;
-    if d <= n {
-        return n;
+    let d = usize::from(t.d);
+    if d <= n || mark_of(dist, t.from) == 0 {
+        n
+    } else {
+        d
     }
-    if reach::mark_of(dist, t.from) == 0 {
-        return n;
-    }
-    d
 }
 
 // How many rows are looked at: the greatest delay of a transition that leaves a marked state.
-pub(crate) fn rows_asked(cells: &Cells, count: usize, dist: &[u16; 32]) -> usize
-    requires { Sound cells.now count }
-    ensures { Covers (rows cells.now count) dist.now count result }
+pub(crate) fn rows_asked(fit: Fit<'_>, dist: &Marks) -> usize
+    ensures { Covers (transitions fit.entry.rows.now) dist.now (length fit.entry.rows.now) result }
 {
-    let mut n: usize = 0;
-    let mut k: usize = 0;
-    while k < count {
-        n = rows_with(dist, row(cells, count, k), n);
-        k += 1;
+    let mut n = 0;
+    for &t in fit.rows {
+        n = rows_with(dist, t, n);
     }
     n
 }
 
 // Whether transition k leaves a marked state and starts a pair that turns.
-fn starts(
-    cells: &Cells,
-    count: usize,
-    dist: &[u16; 32],
-    numbers: &[u32],
-    letters: &[u8],
-    k: usize,
-) -> bool
-    requires { Sound cells.now count × (k < count) × Ready (rows cells.now count) dist.now numbers.now letters.now }
-    ensures { Tells result (Starts Turns (rows cells.now count) dist.now k) }
+fn starts(fit: Fit<'_>, dist: &Marks, numbers: &[u32], letters: &[u8], k: usize) -> bool
+    requires { (k < length fit.rows.now) × Ready (transitions fit.rows.now) dist.now numbers.now letters.now }
+    ensures { Tells result (Starts Turns (transitions fit.entry.rows.now) dist.now k) }
 {
-    let t = row(cells, count, k);
-    let mark = reach::mark_of(dist, t.from);
+    let t = fit.rows[k];
+    let mark = mark_of(dist, t.from);
+    // The number is looked up only where the first test lets it.
     if mark == 0 {
         return false;
     }
-    let a = entry(numbers, letters, t.d as usize - 1, t.to as usize);
-    asked(t, a)
+    asked(t, entry(numbers, letters, usize::from(t.d) - 1, t.to))
 }
 
 // The lowest of them.
-fn first_start(
-    cells: &Cells,
-    count: usize,
-    dist: &[u16; 32],
-    numbers: &[u32],
-    letters: &[u8],
-) -> Found
-    requires { Sound cells.now count × Ready (rows cells.now count) dist.now numbers.now letters.now }
-    ensures { Least (Starts Turns (rows cells.now count) dist.now) result }
+fn first_start(fit: Fit<'_>, dist: &Marks, numbers: &[u32], letters: &[u8]) -> Option<usize>
+    requires { Ready (transitions fit.rows.now) dist.now numbers.now letters.now }
+    ensures { Least (Starts Turns (transitions fit.entry.rows.now) dist.now) result }
 {
-    let mut k: usize = 0;
-    while k < count {
-        if starts(cells, count, dist, numbers, letters, k) {
-            return Found::At(k);
+    // A for: of a closure that captures a struct the goals stay open.
+    for k in 0..fit.rows.len() {
+        if starts(fit, dist, numbers, letters, k) {
+            return Some(k);
         }
-        k += 1;
     }
-    Found::Nothing
+    None
 }
 
 // The same, with the n rows that are looked at made first.
 pub(crate) fn lowest_start(
-    cells: &Cells,
-    count: usize,
-    dist: &[u16; 32],
+    fit: Fit<'_>,
+    dist: &Marks,
     numbers: &mut [u32],
     letters: &mut [u8],
     n: usize,
-) -> Found
-    requires { Sound cells.now count × Covers (rows cells.now count) dist.now count n × (length letters.old ≡ length numbers.old)
+) -> Option<usize>
+    requires { Covers (transitions fit.rows.now) dist.now (length fit.rows.now) n × (length letters.old ≡ length numbers.old)
         × Blank numbers.old 0 × (n * 32 ≤ length numbers.old) }
-    ensures { Least (Starts Turns (rows cells.now count) dist.now) result }
+    ensures { Least (Starts Turns (transitions fit.entry.rows.now) dist.now) result }
 {
-    fill(cells, count, numbers, letters, n);
-    first_start(cells, count, dist, numbers, letters)
+    fill(fit, numbers, letters, n);
+    first_start(fit, dist, numbers, letters)
 }

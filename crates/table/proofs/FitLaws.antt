@@ -3,19 +3,22 @@ use mathlib.Core.Path.{◌≡◌, ap, ◌∙◌}
 use mathlib.Core.List.{List}
 use Prim.Native.Nat.{ℕ, ◌≤◌, ◌<◌}
 use native.Mathlib.Omega.{arith}
+use lib.ListN.{length}
 use Rattle.model.specs.Lists.{All}
 use Rattle.model.specs.Table.{Transition, InRange, Valid, at, none}
 use Rattle.model.proofs.Lists.{all-at, all_map}
 use Rattle.table.specs.declared.Row.{Row}
 use Rattle.table.specs.declared.Table.{Table}
 use Rattle.table.specs.Rows.{rows, row_of, said, machine_of}
+use Rattle.table.specs.declared.fit.Fit.{Fit}
 use Rattle.table.specs.Fit.{Sound}
+use Rattle.table.proofs.SliceLaws.{every-all}
 use Rattle.table.proofs.RowLaws.{length-rows, row-known}
 
-module _ {c : List ℕ} {n : ℕ} (sound : Sound c n) (i : ℕ) (known : i < n) where
+module _ {c : List Row} {n : ℕ} (sound : Sound c n) (i : ℕ) (known : i < n) where
   -- the row that was read is the transition
   pub row-said : {r : Row} → r ≡ row_of c i → said r ≡ at (rows c n) i
-  row-said e = ap said e ∙ row-known c n i sound.few known
+  row-said e = ap said e ∙ row-known c n i known
 
   pub row-ranged : InRange 32 (at (rows c n) i)
   row-ranged = all-at none sound.ranged i (omega (arith, length-rows c n))
@@ -26,6 +29,10 @@ module _ {c : List ℕ} {n : ℕ} (sound : Sound c n) (i : ℕ) (known : i < n) 
 
   pub row-arrives : {r : Row} → r ≡ row_of c i → r.to < 32
   row-arrives e = omega (arith, ap (λ (t : Transition). t.to) (row-said e), row-ranged.arrives)
+
+-- what a fit slice is
+pub fit-sound : (f : Fit) → Sound f.rows.now (length f.rows.now)
+fit-sound f = record { few = f.few; ranged = (every-all f.rows.now).0 f.ranged }
 
 -- within fewer states is within more
 pub range-wider : {a b : ℕ} → a ≤ b → (t : Transition) → InRange a t → InRange b t

@@ -1,3 +1,4 @@
+pub mod SliceLaws
 pub mod RangeLaws
 pub mod RowLaws
 pub mod SeenLaws

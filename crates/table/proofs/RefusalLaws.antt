@@ -1,4 +1,5 @@
 -- Number and place fix the case of a refusal, and so an answer's fields the answer.
+use Rattle.std.specs.Prelude.{Ok, Err}
 use mathlib.Core.Path.{◌≡◌, refl, sym, ap, ◌∙◌}
 use mathlib.Core.List.{[], ◌∷◌}
 use Prim.Native.Nat.{ℕ, ◌≤◌}
@@ -6,8 +7,7 @@ use native.Mathlib.Omega.{arith}
 use lib.ListN.{get_or}
 use Rattle.table.specs.declared.Refusal.{Refusal}
 use Rattle.table.specs.declared.Refusal.TheVariants.{Cut, Misplaced, Full, OutOfRange, Repeated, NoTrace, Uneven, NoRoom, Early, Late}
-use Rattle.table.specs.declared.Checked.{Checked}
-use Rattle.table.specs.declared.Checked.TheVariants.{Sound, Refused}
+use Rattle.table.specs.Refusal.{Checked}
 use Rattle.table.specs.Refusal.{refusal_number, refusal_place, refused_fields, checked_fields}
 
 -- the case of a number and a place
@@ -50,7 +50,7 @@ pub refused-only : (r s : Refusal) → refused_fields r ≡ refused_fields s →
 refused-only r s e = refusal-only r s (ap (λ f. f.status) e) (ap (λ f. f.first) e)
 
 pub checked-only : (a b : Checked) → checked_fields a ≡ checked_fields b → a ≡ b
-checked-only Sound Sound e = refl
-checked-only Sound (Refused s) e = absurd (omega (arith, refusal-some s, ap (λ f. f.status) e))
-checked-only (Refused r) Sound e = absurd (omega (arith, refusal-some r, ap (λ f. f.status) e))
-checked-only (Refused r) (Refused s) e = ap Refused (refused-only r s e)
+checked-only (Ok x) (Ok y) e = refl
+checked-only (Ok x) (Err s) e = absurd (omega (arith, refusal-some s, ap (λ f. f.status) e))
+checked-only (Err r) (Ok x) e = absurd (omega (arith, refusal-some r, ap (λ f. f.status) e))
+checked-only (Err r) (Err s) e = ap Err (refused-only r s e)

@@ -9,6 +9,7 @@ use native.Mathlib.Omega.{arith}
 use borrow.Author.Tests.{eq-eqb, ne_eqb, lt-ltb, le-ltb}
 use lib.Dec.{eqb}
 use lib.ListN.{length, get_or, set, length-set, get_or-eq_default}
+use Rattle.std.proofs.lemmas.Bool.{false_from_ne_true, both_ways, or_from}
 use lib.Seq.{set_out, get_or-set_same, get_or-set_other}
 use Rattle.model.specs.Lists.{In}
 use Rattle.model.specs.Table.{Transition}
@@ -17,7 +18,7 @@ use Rattle.table.specs.Rows.{listed}
 use Rattle.table.specs.Check.{has}
 use Rattle.table.specs.Seen.{key_of, place_of, mark_of, mark_at, Stands, suspect, noted, Marked}
 use Rattle.table.proofs.RowLaws.{listed_more}
-use Rattle.table.proofs.RangeLaws.{refuted, differ, has_in, or-false, or_right}
+use Rattle.table.proofs.RangeLaws.{has_in, or_right}
 
 -- a place is among those that there are
 module _ (size key : ℕ) where
@@ -36,7 +37,7 @@ module _ (size key : ℕ) where
 module _ (seen : List ℕ) (key : ℕ) where
   pub suspect-other : (mark_at seen key ≡ mark_of key → ⊥) → (mark_at seen key ≡ 255 → ⊥) → suspect seen key ≡ false
   unfolding suspect
-  suspect-other a b = or-false (eqb (mark_at seen key) (mark_of key)) _ (ne_eqb _ _ a) (ne_eqb _ _ b)
+  suspect-other a b = or_from (eqb (mark_at seen key) (mark_of key)) _ (ne_eqb _ _ a) (ne_eqb _ _ b)
 
   pub suspect-own : Stands seen key → suspect seen key ≡ true
   unfolding suspect
@@ -119,7 +120,7 @@ module _ {seen : List ℕ} {ts : List Transition} (p : Marked seen ts) (t : Tran
     pub marked-not : {b : Bool} → b ≡ suspect seen key → b ≡ false → has t ts ≡ false
     marked-not s n =
         let q : suspect seen (key_of t) ≡ false = rw e at (sym s ∙ n) in
-        refuted (has t ts) (λ h. differ q (suspect-own seen (key_of t) (p.each t ((has_in t ts).0 h))))
+        false_from_ne_true (has t ts) (λ h. both_ways _ q (suspect-own seen (key_of t) (p.each t ((has_in t ts).0 h))))
 
     pub marked_next : {seen' : List ℕ} → seen' ≡ noted seen key → Marked seen' (ts ++ (t ∷ []))
     marked_next s = rw (s, e) marked-noted

@@ -1,4 +1,5 @@
 -- Two answers on one table agree in all but the trace that is shown, and in everything if they show one trace.
+use Rattle.std.specs.Prelude.{Err}
 use mathlib.Core.Path.{◌≡◌, refl, sym, ap, ◌∙◌}
 use mathlib.Core.Logic.{dite}
 use mathlib.Core.List.{List}
@@ -11,8 +12,7 @@ use Rattle.model.specs.Answers.{Fields, fields}
 use Rattle.model.specs.Lists.{over}
 use Rattle.model.specs.Table.{Transition, Machine}
 use Rattle.model.specs.Verdict.{StepOf, ShowsLowest}
-use Rattle.table.specs.declared.Checked.{Checked}
-use Rattle.table.specs.declared.Checked.TheVariants.{Refused}
+use Rattle.table.specs.Refusal.{Checked}
 use Rattle.table.specs.declared.Refusal.{Refusal}
 use Rattle.table.specs.Refusal.{refused_fields, checked_fields}
 use Rattle.table.specs.Tests.{Test, Tested, Answered, refuses, answers}
@@ -155,7 +155,7 @@ module _ {Quiet : Type 0} {Shows : Fields → List ℕ → List ℕ → Type 0} 
 
 -- a call whose tests were made before it
 module _ (tests : List Test) {Quiet : Type 0} {Shows : Fields → List ℕ → List ℕ → Type 0} (trace₀ stamps₀ : List ℕ) where
-  pub shown-refused : {a : Checked} {x : Refusal} → a ≡ Refused x → Tested tests (checked_fields a)
+  pub shown-refused : {a : Checked} {x : Refusal} → a ≡ Err x → Tested tests (checked_fields a)
       → ShownOn tests Quiet Shows trace₀ stamps₀ (refused_fields x) trace₀ stamps₀
   shown-refused e h = refuses refl (tested-fails tests e h) (refl, refl)
 

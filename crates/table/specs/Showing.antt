@@ -1,4 +1,4 @@
--- An answer on a whole table, which shows nothing or a trace with its stamps. "Which such trace is free": what two answers agree in all the same.
+-- An answer on a whole table, which shows nothing or a trace with its stamps. Which trace is shown is free: what two answers agree in all the same.
 use Rattle.std.specs.Prelude.{◌≡◌, List, ℕ, ◌-◌, ◌≤◌, ◌<◌, length, take, get_or}
 use Rattle.model.specs.Answers.{Fields, fields}
 use Rattle.model.specs.Lists.{over}
@@ -25,7 +25,7 @@ pub record Agree (Same : Fields → List ℕ → Fields → List ℕ → Type 0)
   pub plain : f.status < 256 → f ≡ g
   pub shown : 256 ≤ f.status → Same f (shown_in f places) g (shown_in g places')
 
--- the transition at a step, "counted from 1"
+-- the transition at a step, which is counted from 1
 abbrev pub at_step : List ℕ → ℕ → ℕ
 at_step l k = get_or l (k - 1) 0
 

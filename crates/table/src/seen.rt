@@ -9,7 +9,10 @@ use crate::Row;
 pub fn mixed(a: u32, b: u32, c: u32, d: u16) -> u64
     ensures { result ≡ mix_of a b c d }
 {
-    a as u64 * 332816339 + b as u64 * 510510511 + c as u64 * 479001599 + d as u64 * 2654435769
+    u64::from(a) * 332816339
+        + u64::from(b) * 510510511
+        + u64::from(c) * 479001599
+        + u64::from(d) * 2654435769
 }
 
 // The seven numbers mixed.
@@ -17,9 +20,9 @@ pub(crate) fn key(r: Row) -> u64
     ensures { result ≡ key_of (said r) }
 {
     mixed(
-        r.from as u32 + r.input as u32 * 65536,
-        r.output as u32 + r.to as u32 * 65536,
-        r.u as u32 + r.v as u32 * 65536,
+        u32::from(r.from) + u32::from(r.input) * 65536,
+        u32::from(r.output) + u32::from(r.to) * 65536,
+        u32::from(r.u) + u32::from(r.v) * 65536,
         r.d,
     )
 }
@@ -28,6 +31,7 @@ pub(crate) fn key(r: Row) -> u64
 fn place(size: usize, key: u64) -> usize
     ensures { result ≡ place_of size key }
 {
+    // The place is below 2,048: nothing is cut off.
     if size < 2048 {
         return (key / 4194304 % 256) as usize;
     }
@@ -35,6 +39,7 @@ fn place(size: usize, key: u64) -> usize
 }
 
 // Whether its place leaves it open that a transition with this key was met; then it is marked. All places are 0 before the first.
+// Its contract is an equation: of && under one the goals stay open.
 pub fn mark(seen: &mut [u8], key: u64) -> bool
     ensures { (result ≡ suspect seen.old key) × (seen.new ≡ noted seen.old key) }
 {

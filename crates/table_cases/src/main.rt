@@ -1,5 +1,5 @@
 #![tactic(auto)]
-// Document 01's reader cases, run: what each file is answered, and whether writing gives it back.
+// Reader cases, run: what each file is answered, and whether writing gives it back.
 use std::io;
 
 fn main(rt: HostRuntime) -> io::Result<()> {

@@ -1,4 +1,10 @@
 -- The file rule: a valid machine's file is read as that machine, and nothing else is.
+use Rattle.std.specs.Prelude.{Some, None, Ok, Err}
+use Rattle.std.specs.Cmp.Lexicographic.{pointwise}
+use Rattle.std.specs.Bool.{one_answer}
+use Rattle.std.proofs.lemmas.Slice.Eq.{slice_eq-Decides}
+use Rattle.std.proofs.lemmas.Bool.Decides.{Decides-eqb}
+use Rattle.table_file.specs.Records.{record_at}
 use mathlib.Core.Path.{◌≡◌, refl, sym, ap, ◌∙◌}
 use mathlib.Core.Bool.{Bool, true, false, cond}
 use mathlib.Core.List.{List, [], ◌∷◌, ◌++◌, append-nil}
@@ -9,27 +15,24 @@ use native.Mathlib.Decide.{dec_lt, dec_le}
 use borrow.Author.Tests.{le-leb, lt-leb, ltb-false}
 use lib.Dec.{leb, ltb, eqb}
 use lib.ListN.{length, get_or, take, drop, length-append, length-take, length-drop, drop_of_length-le, get_or-append}
+use Rattle.std.proofs.lemmas.Bool.{false_from_ne_true}
 use lib.Seq.{append_snoc, take-nil, take-take, drop_at, get_or-append_seam}
 use Rattle.model.specs.Lists.{All}
 use Rattle.model.specs.Lists.All.{all_nil, all_cons}
 use Rattle.model.specs.Table.{Transition, Machine, InRange, Valid, none}
 use Rattle.model.proofs.Lists.{in_place}
-use Rattle.wire.specs.Bytes.{le, bytes, Bytes, les}
-use Rattle.wire.proofs.Bytes.{le-take, le-part, Held, les-front, les-bytes, bytes_drop, bytes-append, length-bytes}
+use Rattle.wire.specs.Bytes.{bytes_by, le, bytes, Bytes, les}
+use Rattle.wire.proofs.Bytes.{bytes-les, le-take, le-part, Held, les-front, les-bytes, bytes_drop, bytes-append, length-bytes}
 use Rattle.table.specs.declared.Refusal.{Refusal}
 use Rattle.table.specs.declared.Row.{Row}
-use Rattle.table_file.specs.declared.Frame.{Frame}
-use Rattle.table_file.specs.declared.Frame.TheVariants.{Bad, Took, Last}
-use Rattle.table_file.specs.declared.Opening.{Opening}
-use Rattle.table_file.specs.declared.Opening.TheVariants.{Opened, Shut}
 use Rattle.table.specs.Refusal.{refusal_number, refusal_place}
 use Rattle.table.specs.Rows.{numbers, said, flat}
-use Rattle.table.specs.Check.{head_fine, in_range, has}
+use Rattle.table.specs.Check.{head_fine, in_range, same, has}
 use Rattle.table.specs.Tests.{Sized}
 use Rattle.model.specs.Table.{Unlike}
-use Rattle.table_file.specs.File.{head_numbers, row_numbers, end_numbers, file_of, ValidFile, length_in, kind_in, body_in, whole, row_in, frame_in, head_in}
+use Rattle.table_file.specs.File.{Frame, Opening, head_numbers, row_numbers, end_numbers, file_of, ValidFile, length_in, kind_in, body_in, whole, row_in, frame_in, head_in}
 use Rattle.table_file.specs.File.{Listed, found, refused, ended, admitted, rows_from, Scan, machine, stopped, with_rows, with_head, read_file}
-use Rattle.table.proofs.RangeLaws.{head-true, in-range, has_in, refuted}
+use Rattle.table.proofs.RangeLaws.{same_true, head-true, in-range, has_in}
 use Rattle.table.proofs.RowLaws.{unlike-more}
 use Rattle.table_file.proofs.FrameLaws.{whole-yes, head-whole, frame_row, RowSays, took-says, EndSays, last_says, HeadSays, opened-says}
 use Rattle.table_file.proofs.ReadLaws.{ended_is, admitted-is, rows-bad, rows_last, rows-full, rows-took, read_found}
@@ -38,22 +41,22 @@ use Rattle.table_file.proofs.ReadLaws.{ended_is, admitted-is, rows-bad, rows_las
 module _
     (states : ℕ)
     (P : ℕ → ℕ → List ℕ → List Transition → Listed → Type 0)
-    (bad : (room offset : ℕ) (rest : List ℕ) (ts : List Transition) (r : Refusal) → frame_in offset rest ≡ Bad r
+    (bad : (room offset : ℕ) (rest : List ℕ) (ts : List Transition) (r : Refusal) → frame_in offset rest ≡ Err r
     → P room offset rest ts (refused (refusal_number r) (refusal_place r)))
-    (last : (room offset : ℕ) (rest : List ℕ) (ts : List Transition) → frame_in offset rest ≡ Last → P room offset rest ts (ended offset rest ts))
-    (full : (offset : ℕ) (rest : List ℕ) (ts : List Transition) (r : Row) → frame_in offset rest ≡ Took r → P 0 offset rest ts (refused 3 offset))
-    (more : (room offset : ℕ) (rest : List ℕ) (ts : List Transition) (r : Row) (next : Listed) → frame_in offset rest ≡ Took r
+    (last : (room offset : ℕ) (rest : List ℕ) (ts : List Transition) → frame_in offset rest ≡ Ok None → P room offset rest ts (ended offset rest ts))
+    (full : (offset : ℕ) (rest : List ℕ) (ts : List Transition) (r : Row) → frame_in offset rest ≡ Ok (Some r) → P 0 offset rest ts (refused 3 offset))
+    (more : (room offset : ℕ) (rest : List ℕ) (ts : List Transition) (r : Row) (next : Listed) → frame_in offset rest ≡ Ok (Some r)
     → P room (offset + 18) (drop 18 rest) (ts ++ (said r ∷ [])) next → P (suc room) offset rest ts (admitted states offset ts (said r) next))
   where
     rows-case : (room offset : ℕ) (rest : List ℕ) (ts : List Transition)
-        → ((r : Row) → frame_in offset rest ≡ Took r → P room offset rest ts (rows_from room states offset rest ts))
+        → ((r : Row) → frame_in offset rest ≡ Ok (Some r) → P room offset rest ts (rows_from room states offset rest ts))
         → P room offset rest ts (rows_from room states offset rest ts)
     rows-case room offset rest ts took = by (frame_in offset rest) refl
       where
         by : (f : Frame) → frame_in offset rest ≡ f → P room offset rest ts (rows_from room states offset rest ts)
-        by (Bad r) e = rw (rows-bad states offset rest ts room r e) (bad room offset rest ts r e)
-        by Last e = rw (rows_last states offset rest ts room e) (last room offset rest ts e)
-        by (Took r) e = took r e
+        by (Err r) e = rw (rows-bad states offset rest ts room r e) (bad room offset rest ts r e)
+        by (Ok None) e = rw (rows_last states offset rest ts room e) (last room offset rest ts e)
+        by (Ok (Some r)) e = took r e
 
     rows-rule : (room offset : ℕ) (rest : List ℕ) (ts : List Transition) → P room offset rest ts (rows_from room states offset rest ts)
     rows-rule zero offset rest ts = rows-case 0 offset rest ts (λ r e. rw (rows-full states offset rest ts r e) (full offset rest ts r e))
@@ -81,12 +84,28 @@ body-numbers rest =
       le-part 2 rest 14 4 12 (omega arith),
     )
 
+-- two records hold one transition if their bodies are the same bytes, and only then
+module _ (l : List ℕ) (b : Bytes l) (i j : ℕ) (p : 8 + i * 18 + 18 ≤ length l) (q : 8 + j * 18 + 18 ≤ length l) where
+  abbrev body-at : ℕ → List ℕ
+  body-at k = body_in 14 (drop (8 + k * 18) l)
+
+  body-bytes : (k : ℕ) → 8 + k * 18 + 18 ≤ length l → bytes 2 (numbers (said (record_at l k))) ≡ body-at k
+  body-bytes k h =
+      ap (bytes 2) (body-numbers (drop (8 + k * 18) l)) ∙ bytes-les 2 7 (drop (8 + k * 18) l) 4 (bytes_drop (8 + k * 18) l b) (omega (arith, length-drop (8 + k * 18) l))
+
+  pub same-bytes : (r : Bool) → r ≡ pointwise eqb (body-at i) (body-at j) → r ≡ same (said (record_at l i)) (said (record_at l j))
+  same-bytes r e =
+      one_answer _ _ (slice_eq-Decides Decides-eqb (body-at i) (body-at j) r e) (
+        λ k. sym (body-bytes i p) ∙ ap (λ (t : Transition). bytes 2 (numbers t)) ((same_true _ _).0 k) ∙ body-bytes j q,
+        λ k. (same_true _ _).1 (ap (λ (body : List ℕ). said (row_in body)) k),
+      )
+
 row_fits : (states : ℕ) (t : Transition) → states ≤ 32 → InRange states t → Held 2 (row_numbers t)
 row_fits states t h r = omega arith
 
 -- the record of a transition is taken as that transition
 row-taken : (offset : ℕ) (t : Transition) (more : List ℕ) → Held 2 (row_numbers t)
-    → (r : Row) × (frame_in offset (bytes 2 (row_numbers t) ++ more) ≡ Took r) × (said r ≡ t)
+    → (r : Row) × (frame_in offset (bytes 2 (row_numbers t) ++ more) ≡ Ok (Some r)) × (said r ≡ t)
 row-taken offset t more f =
     let rest : List ℕ = bytes 2 (row_numbers t) ++ more in
     let e : les 2 9 rest 0 ≡ row_numbers t = les-bytes 2 (row_numbers t) more f in
@@ -99,14 +118,14 @@ row-taken offset t more f =
       numbers-only (said (row_in (body_in 14 rest))) t (body-numbers rest ∙ body),
     )
 
-end-taken : (offset : ℕ) → frame_in offset (bytes 2 end_numbers) ≡ Last
-unfolding bytes frame_in whole
+end-taken : (offset : ℕ) → frame_in offset (bytes 2 end_numbers) ≡ Ok None
+unfolding bytes_by frame_in whole
 end-taken offset = refl
 
 -- one that stands behind others is none of them
 unlike-has : (done ts : List Transition) (t : Transition) → Unlike (done ++ (t ∷ ts)) → has t done ≡ false
 unlike-has done ts t u =
-    refuted (has t done) (λ e.
+    false_from_ne_true (has t done) (λ e.
     let p = in_place none t done ((has_in t done).0 e) in
     u p.0 (length done) p.1 (omega (arith, length-append done (t ∷ ts)))
     (get_or-append done (t ∷ ts) none p.0 p.1 ∙ p.2 ∙ sym (get_or-append_seam done t ts none)))
@@ -131,7 +150,7 @@ rows-complete states h (suc room) offset done (t ∷ ts) few (all_cons r a) u =
     (rows-complete states h room (offset + 18) (done ++ (t ∷ [])) ts (omega arith) a (rw snoc u) ∙ ap found snoc)
 
 -- the head is read as its two numbers
-head-taken : (states initial : ℕ) (more : List ℕ) → Sized states initial → head_in (bytes 2 (head_numbers states initial) ++ more) ≡ Opened states initial
+head-taken : (states initial : ℕ) (more : List ℕ) → Sized states initial → head_in (bytes 2 (head_numbers states initial) ++ more) ≡ Ok (states, initial)
 head-taken states initial more h =
     let l : List ℕ = bytes 2 (head_numbers states initial) ++ more in
     let e : les 2 4 l 0 ≡ head_numbers states initial = les-bytes 2 (head_numbers states initial) more (omega arith) in
@@ -247,15 +266,15 @@ pub sound : (l : List ℕ) (m : Machine) → Bytes l → read_file l ≡ machine
 unfolding read_file
 sound l m b e = by-head (head_in l) refl e
   where
-    by_rows : (s i : ℕ) → head_in l ≡ Opened s i → (f : Listed) → rows_from 256 s 8 (drop 8 l) [] ≡ f → with_rows s i f ≡ machine m → Valid m × (l ≡ file_of m)
+    by_rows : (s i : ℕ) → head_in l ≡ Ok (s, i) → (f : Listed) → rows_from 256 s 8 (drop 8 l) [] ≡ f → with_rows s i f ≡ machine m → Valid m × (l ≡ file_of m)
     by_rows s i h (refused n p) q e = let z : ◌≡◌ {A = ℕ} 0 1 = cc in absurd (omega arith)
     by_rows s i h (found ts) q e =
         let same : record { states = s; initial = i; transitions = ts } ≡ m = cc in
         rw (← same) (whole-file l s i ts b (opened-says l s i h) (rows-sound s 256 8 (drop 8 l) [] ts (bytes_drop 8 l b) (λ i j p q. absurd (omega arith)) q))
 
     by-head : (o : Opening) → head_in l ≡ o → with_head l o ≡ machine m → Valid m × (l ≡ file_of m)
-    by-head (Opened s i) q e = by_rows s i q (rows_from 256 s 8 (drop 8 l) []) refl e
-    by-head (Shut r) q e = let z : ◌≡◌ {A = ℕ} 0 1 = cc in absurd (omega arith)
+    by-head (Ok (s, i)) q e = by_rows s i q (rows_from 256 s 8 (drop 8 l) []) refl e
+    by-head (Err r) q e = let z : ◌≡◌ {A = ℕ} 0 1 = cc in absurd (omega arith)
 
 -- a file is valid or refused, and not both
 pub valid-read : (l : List ℕ) (f : ValidFile l) → read_file l ≡ machine f.machine
@@ -332,14 +351,14 @@ rows-near states =
     (λ room offset rest ts r next q more n h.
     rows-took states offset (take n rest) ts room r (frame-near rest n offset (omega arith) ∙ q) ∙ rw (drop-take 18 n rest, more (n - 18) (omega arith)))
 
--- "later bytes can't change the answer": one head, 256 transitions and one record more decide
+-- later bytes change no answer: one head, 256 transitions and one record more decide
 pub near : (l : List ℕ) (n : ℕ) → 4634 ≤ n → read_file (take n l) ≡ read_file l
 unfolding read_file
 near l n h = rw (head_near l n (omega arith)) (by (head_in l))
   where
     by : (o : Opening) → with_head (take n l) o ≡ with_head l o
-    by (Opened s i) = rw (drop-take 8 n l, rows-near s 256 8 (drop 8 l) [] (n - 8) (omega arith))
-    by (Shut r) = refl
+    by (Ok (s, i)) = rw (drop-take 8 n l, rows-near s 256 8 (drop 8 l) [] (n - 8) (omega arith))
+    by (Err r) = refl
 
 -- a refusal of a file: its number is one of 1 to 5, its place is inside the file or at its end
 pub record Named (size n p : ℕ) : Type 0 where
@@ -354,13 +373,13 @@ cond_both P false x y p q = q
 
 module _ (size : ℕ) where
   abbrev FrameNamed : Frame → Type 0
-  FrameNamed (Bad r) = Named size (refusal_number r) (refusal_place r)
-  FrameNamed (Took r) = Unit {0}
-  FrameNamed Last = Unit {0}
+  FrameNamed (Err r) = Named size (refusal_number r) (refusal_place r)
+  FrameNamed (Ok (Some r)) = Unit {0}
+  FrameNamed (Ok None) = Unit {0}
 
   abbrev OpeningNamed : Opening → Type 0
-  OpeningNamed (Opened s i) = Unit {0}
-  OpeningNamed (Shut r) = Named size (refusal_number r) (refusal_place r)
+  OpeningNamed (Ok h) = Unit {0}
+  OpeningNamed (Err r) = Named size (refusal_number r) (refusal_place r)
 
   abbrev ListedNamed : Listed → Type 0
   ListedNamed (found ts) = Unit {0}
@@ -413,11 +432,11 @@ unfolding read_file
 read_named l = by (head_in l) refl
   where
     by : (o : Opening) → head_in l ≡ o → ScanNamed (length l) (with_head l o)
-    by (Opened s i) q =
+    by (Ok (s, i)) q =
         let h = (opened-says l s i q).long in
         let e : 8 + length (drop 8 l) ≡ length l = omega (arith, length-drop 8 l) in
         scan-named (length l) s i (rows_from 256 s 8 (drop 8 l) []) (rw e at (rows_named s 256 8 (drop 8 l) []))
-    by (Shut r) q = rw q at (head-named (length l) l)
+    by (Err r) q = rw q at (head-named (length l) l)
 
 -- a refused record begins inside the file or at its end
 pub places : (l : List ℕ) (n p : ℕ) → read_file l ≡ stopped n p → Named (length l) n p

@@ -1,23 +1,21 @@
 -- The writer's stores, one behind the other, are the file.
+use Rattle.std.specs.Prelude.{Ok, Err}
 use mathlib.Core.Path.{◌≡◌, refl, sym, ap, ◌∙◌}
-use mathlib.Core.List.{List, [], ◌∷◌, ◌++◌, append_assoc}
+use mathlib.Core.List.{List, ◌++◌, append_assoc}
 use Prim.Native.Nat.{ℕ, ◌+◌, ◌*◌, ◌≤◌, ◌<◌}
 use native.Mathlib.Omega.{arith}
 use lib.ListN.{length, drop, length-append}
-use mathlib.Core.Logic.{inl, inr}
-use Rattle.model.specs.Answers.{Fields}
-use Rattle.model.specs.Table.{Transition, Machine}
+use mathlib.Core.Logic.{inl}
+use Rattle.model.specs.Table.{Transition, Machine, Valid}
 use Rattle.table.specs.declared.Refusal.{Refusal}
-use Rattle.table.specs.declared.Refusal.TheVariants.{Full, NoRoom}
-use Rattle.table.specs.declared.Checked.{Checked}
-use Rattle.table.specs.declared.Checked.TheVariants.{Sound, Refused as NotSound}
+use Rattle.table.specs.declared.Refusal.TheVariants.{NoRoom}
+use Rattle.table.specs.declared.Row.{Row}
 use Rattle.table.specs.declared.Table.{Table}
-use Rattle.table_file.specs.declared.Written.TheVariants.{Bytes}
-use Rattle.table.specs.Refusal.{refused_fields, checked_fields}
-use Rattle.table.specs.Tests.{unless, refuses, answers, CheckOutcome}
-use Rattle.table_file.specs.Write.{written_fields, room_test, PutOutcome, WriteOutcome}
-use Rattle.table.proofs.TestLaws.{fails-back, sound-valid, refused-fails, valid-fails, valid-passes}
-use Rattle.wire.specs.Bytes.{bytes, placed}
+use Rattle.table.specs.Refusal.{passing, refused_fields, checked_fields}
+use Rattle.table.specs.Tests.{refuses, answers, CheckOutcome}
+use Rattle.table_file.specs.Write.{written_fields, room_test, WriteOutcome}
+use Rattle.table.proofs.TestLaws.{sound-valid, refused-fails, valid-fails, valid-passes, valid-count}
+use Rattle.wire.specs.Bytes.{bytes_by, bytes, placed}
 use Rattle.wire.proofs.Bytes.{length-bytes, bytes-append, placed-none, placed-more, placed-fits, length-placed}
 use Rattle.table.specs.Rows.{listed, rows, row_at, said, flat, machine_of}
 use Rattle.table_file.specs.File.{head_numbers, row_numbers, end_numbers, file_of}
@@ -34,9 +32,9 @@ length-file m =
     length-bytes 2 (head_numbers m.states m.initial ++ (flat row_numbers m.transitions ++ end_numbers))
     ∙ simp length-append (omega (arith, length-flat row_numbers 9 (λ t. refl) m.transitions))
 
-module _ (cells out : List ℕ) where
+module _ (cells : List Row) (out : List ℕ) where
   pub records-none : 8 ≤ length out → out ≡ placed out 8 (bytes 2 (flat row_numbers (rows cells 0)))
-  unfolding rows listed flat bytes
+  unfolding rows listed flat bytes_by
   records-none h = sym (placed-none out 8 h)
 
   pub records-more : (i : ℕ) (o : List ℕ) → 8 + (i + 1) * 18 ≤ length out → o ≡ placed out 8 (bytes 2 (flat row_numbers (rows cells i)))
@@ -90,29 +88,25 @@ module _ (t : Table) (out : List ℕ) where
   head-long a h e =
       ap length e ∙ length-placed out 0 (bytes 2 (head_numbers t.states t.initial)) (omega (arith, length-bytes 2 (head_numbers t.states t.initial)))
 
-  pub put_full : 256 < t.count → PutOutcome m out (refused_fields (Full 0)) out
-  put_full h = refuses refl (inl ((λ l. omega (arith, long)), refl, refl)) refl
+  pub write-refused : (r : Refusal) → CheckOutcome m (checked_fields (Err r)) → WriteOutcome m out (refused_fields r) out
+  write-refused r x = refuses refl (refused-fails m (room_test m out) refl x) refl
 
-  module _ (few : t.count ≤ 256) where
-    pub put-short : length out < 12 + t.count * 18 → PutOutcome m out (refused_fields NoRoom) out
-    put-short h = refuses refl (inr (omega (arith, long), inl ((λ l. omega (arith, size)), refl, refl))) refl
+  -- of a table that was checked: what is left to test is the room
+  module _ (x : CheckOutcome m (checked_fields passing)) where
+    pub write-valid : Valid m
+    write-valid = sound-valid m refl x
 
-    pub put-done : (a b c : List ℕ) → 12 + t.count * 18 ≤ length out
+    pub write-few : t.count ≤ 256
+    write-few = valid-count t write-valid
+
+    pub write-short : length out < 12 + t.count * 18 → WriteOutcome m out (refused_fields NoRoom) out
+    write-short h = refuses refl ((valid-fails m write-valid (room_test m out) 8 0).1 (inl ((λ l. omega (arith, size)), refl, refl))) refl
+
+    pub write-done : (a b c : List ℕ) → 12 + t.count * 18 ≤ length out
         → a ≡ placed out 0 (bytes 2 (head_numbers t.states t.initial))
-        → b ≡ placed a 8 (bytes 2 (flat row_numbers (rows t.cells t.count)))
+        → b ≡ placed a 8 (bytes 2 (flat row_numbers m.transitions))
         → c ≡ placed b (8 + t.count * 18) (bytes 2 end_numbers)
-        → PutOutcome m out (written_fields (Bytes (12 + t.count * 18))) c
-    put-done a b c h p q r =
+        → WriteOutcome m out (written_fields (Ok (12 + t.count * 18))) c
+    write-done a b c h p q r =
         let w = file-placed m out a b c t.count (sym long) h p q r in
-        answers (omega (arith, long), (omega (arith, size), tt)) (record { counts = rw size; is = rw size w })
-
--- a table that was checked: what is left to test is the room
-module _ (m : Machine) (out : List ℕ) {a : Checked} (x : CheckOutcome m (checked_fields a)) where
-  pub write-refused : {r : Refusal} → a ≡ NotSound r → WriteOutcome m out (refused_fields r) out
-  write-refused e = refuses refl (refused-fails m (room_test m out) e x) refl
-
-  pub write-put : a ≡ Sound → {f : Fields} {o : List ℕ} → PutOutcome m out f o → WriteOutcome m out f o
-  write-put e (answers p d) = answers (valid-passes m (sound-valid m e x) (room_test m out) p.1) d
-  write-put e (refuses {n = n} {p = p} q b k) =
-      let v = sound-valid m e x in
-      refuses q ((valid-fails m v (room_test m out) n p).1 ((fails-back (unless 3 (length m.transitions ≤ 256) ∷ []) (room_test m out) n p (v.few, tt)).0 b)) k
+        answers (valid-passes m write-valid (room_test m out) (omega (arith, size), tt)) (record { counts = rw size; is = rw size w })

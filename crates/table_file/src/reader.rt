@@ -1,56 +1,42 @@
-// The reader: record by record, in document 01's order of tests.
+// The reader: record by record; of each it tests four bytes left, its kind, its length, its numbers.
 ghost use Rattle.std.specs.Prelude.{◌≡◌, ◌+◌, ◌*◌, ◌≤◌, length, drop};
 ghost use Rattle.table.specs.Rows.{said, put_all};
-ghost use Rattle.table.specs.Check.{same, has};
+ghost use Rattle.table.specs.Check.{has};
 ghost use Rattle.table.specs.Seen.{key_of};
 ghost use Rattle.table_file.specs.File.{row_in, frame_in, opened_in, head_in, finish_of};
 ghost use Rattle.table_file.specs.Records.{record_at, recorded, Next, Admitted, RowsOutcome, Kept, TakenOutcome, Scanned};
 
-use crate::{Counted, FileRead, Frame, Opening, Taken};
+use crate::Head;
 use table::ranges::in_range;
 use table::rows::put_row;
 use table::seen::{mark, mixed};
-use table::{Cells, Checked, Refusal, Row, head_fine};
-
-// What a refused file gives: one state and no transitions.
-fn refused(r: Refusal) -> FileRead
-    ensures { (result.answer ≡ Checked.Refused r) × (result.states ≡ 1) × (result.initial ≡ 0) × (result.count ≡ 0) }
-{
-    FileRead {
-        answer: Checked::Refused(r),
-        states: 1,
-        initial: 0,
-        count: 0,
-    }
-}
+use table::{Cells, Refusal, Row, head_fine};
 
 // The head's two numbers from its body.
-fn opened(body: &[u8]) -> Opening
+fn opened(body: &[u8]) -> Result<(u16, u16), Refusal>
     ensures { result ≡ opened_in body.now }
 {
     let states = wire::two(body, 0);
     let initial = wire::two(body, 2);
-    if !head_fine(states, initial) {
-        return Opening::Shut(Refusal::OutOfRange(0));
+    if head_fine(states, initial) {
+        Ok((states, initial))
+    } else {
+        Err(Refusal::OutOfRange(0))
     }
-    Opening::Opened(states, initial)
 }
 
 // The first record must be a head.
-fn head(file: &[u8]) -> Opening
+fn head(file: &[u8]) -> Result<(u16, u16), Refusal>
     ensures { result ≡ head_in file.now }
 {
     if file.len() < 4 {
-        return Opening::Shut(Refusal::Cut(0));
+        return Err(Refusal::Cut(0));
     }
     if wire::two(file, 2) != 1 {
-        return Opening::Shut(Refusal::Misplaced(0));
+        return Err(Refusal::Misplaced(0));
     }
-    if wire::two(file, 0) != 6 {
-        return Opening::Shut(Refusal::Cut(0));
-    }
-    if file.len() < 8 {
-        return Opening::Shut(Refusal::Cut(0));
+    if wire::two(file, 0) != 6 || file.len() < 8 {
+        return Err(Refusal::Cut(0));
     }
     opened(&file[4..8])
 }
@@ -70,43 +56,40 @@ fn fields(body: &[u8]) -> Row
     }
 }
 
-// The record at an offset after the head.
-fn frame(file: &[u8], at: usize) -> Frame
+// The record at an offset after the head: a transition, or the end.
+fn frame(file: &[u8], at: usize) -> Result<Option<Row>, Refusal>
     requires { at ≤ length file.now }
     ensures { result ≡ frame_in at (drop at file.now) }
 {
     if file.len() - at < 4 {
-        return Frame::Bad(Refusal::Cut(at));
+        return Err(Refusal::Cut(at));
     }
     let kind = wire::two(file, at + 2);
     let size = wire::two(file, at);
     if kind == 2 {
-        if size != 16 {
-            return Frame::Bad(Refusal::Cut(at));
+        if size != 16 || file.len() - at < 18 {
+            return Err(Refusal::Cut(at));
         }
-        if file.len() - at < 18 {
-            return Frame::Bad(Refusal::Cut(at));
-        }
-        return Frame::Took(fields(&file[at + 4..at + 18]));
+        return Ok(Some(fields(&file[at + 4..at + 18])));
     }
     if kind != 3 {
-        return Frame::Bad(Refusal::Misplaced(at));
+        return Err(Refusal::Misplaced(at));
     }
     if size == 2 {
-        return Frame::Last;
+        return Ok(None);
     }
-    Frame::Bad(Refusal::Cut(at))
+    Err(Refusal::Cut(at))
 }
 
 // The end record must be the last of the file.
-fn finish(file: &[u8], at: usize, n: usize) -> Counted
+fn finish(file: &[u8], at: usize) -> Result<(), Refusal>
     requires { at + 4 ≤ length file.now }
-    ensures { result ≡ finish_of at (drop at file.now) n }
+    ensures { result ≡ finish_of at (drop at file.now) }
 {
     if 4 < file.len() - at {
-        return Counted::Stop(Refusal::Misplaced(at + 4));
+        return Err(Refusal::Misplaced(at + 4));
     }
-    Counted::Count(n)
+    Ok(())
 }
 
 // The transition in record i.
@@ -118,46 +101,17 @@ fn record_at(file: &[u8], i: usize) -> Row
     fields(&file[at + 4..at + 18])
 }
 
-// Whether two bodies hold one transition, by few and wide reads.
-fn same_body(a: &[u8], b: &[u8]) -> bool
-    ensures { result ≡ same (said (row_in a.now)) (said (row_in b.now)) }
-{
-    if wire::four(a, 0) != wire::four(b, 0) {
-        return false;
-    }
-    if wire::four(a, 4) != wire::four(b, 4) {
-        return false;
-    }
-    if wire::four(a, 8) != wire::four(b, 8) {
-        return false;
-    }
-    if wire::two(a, 12) != wire::two(b, 12) {
-        return false;
-    }
-    true
-}
-
-// Whether two records hold one transition.
-fn same_record(file: &[u8], i: usize, j: usize) -> bool
-    requires { (8 + i * 18 + 18 ≤ length file.now) × (8 + j * 18 + 18 ≤ length file.now) }
-    ensures { result ≡ same (said (record_at file.now i)) (said (record_at file.now j)) }
-{
-    let a = 8 + i * 18;
-    let b = 8 + j * 18;
-    same_body(&file[a + 4..a + 18], &file[b + 4..b + 18])
-}
-
-// Whether the transition in record n is in one before it.
+// Whether the transition in record n is in one before it: whether its bytes are. A loop: the goals of a chain that captures the file stay open.
 fn has_record(file: &[u8], n: usize) -> bool
     requires { 8 + n * 18 + 18 ≤ length file.now }
     ensures { result ≡ has (said (record_at file.now n)) (recorded file.now n) }
 {
-    let mut i: usize = 0;
-    while i < n {
-        if same_record(file, i, n) {
+    let own = &file[8 + n * 18 + 4..8 + n * 18 + 18];
+    for i in 0..n {
+        let at = 8 + i * 18;
+        if &file[at + 4..at + 18] == own {
             return true;
         }
-        i += 1;
     }
     false
 }
@@ -175,93 +129,86 @@ fn key_in(body: &[u8]) -> u64
 }
 
 // 3, 4, 5 of the transition in record n. Marks tell it from nearly all before it; what they leave open the file tells.
-fn admit(file: &[u8], seen: &mut [u8], states: u16, n: usize, at: usize, t: Row) -> Checked
+fn admit(
+    file: &[u8],
+    seen: &mut [u8],
+    states: u16,
+    n: usize,
+    at: usize,
+    t: Row,
+) -> Result<(), Refusal>
     requires { Next file.now seen.old n at t }
     ensures { Admitted file.now states at n t result seen.new }
 {
     if 256 <= n {
-        return Checked::Refused(Refusal::Full(at));
+        return Err(Refusal::Full(at));
     }
     if !in_range(states, t) {
-        return Checked::Refused(Refusal::OutOfRange(at));
+        return Err(Refusal::OutOfRange(at));
     }
-    if mark(seen, key_in(&file[at + 4..at + 18])) {
-        if has_record(file, n) {
-            return Checked::Refused(Refusal::Repeated(at));
-        }
+    if mark(seen, key_in(&file[at + 4..at + 18])) && has_record(file, n) {
+        return Err(Refusal::Repeated(at));
     }
-    Checked::Sound
+    Ok(())
 }
 
-// The record at an offset, after n transitions. Matched on in the loop itself, the last transition would be carried from turn to turn.
-fn take_record(file: &[u8], seen: &mut [u8], states: u16, n: usize, at: usize) -> Taken
+// The record at an offset, after n transitions: whether it is one more. Matched on in the loop itself, the transition would be carried from turn to turn.
+fn take_record(
+    file: &[u8],
+    seen: &mut [u8],
+    states: u16,
+    n: usize,
+    at: usize,
+) -> Result<bool, Refusal>
     requires { Kept file.now seen.old states n at }
     ensures { TakenOutcome states file.now seen.new n at result }
 {
-    let f = frame(file, at);
-    match f {
-        Frame::Bad(r) => Taken::Ends(Counted::Stop(r)),
-        Frame::Last => Taken::Ends(finish(file, at, n)),
-        Frame::Took(t) => {
-            let a = admit(file, seen, states, n, at, t);
-            if let Checked::Refused(r) = a {
-                return Taken::Ends(Counted::Stop(r));
-            }
-            Taken::More
-        }
-    }
+    let Some(t) = frame(file, at)? else {
+        finish(file, at)?;
+        return Ok(false);
+    };
+    admit(file, seen, states, n, at, t)?;
+    Ok(true)
 }
 
-// The records after the head, by marks.
-fn rows_by(file: &[u8], states: u16, seen: &mut [u8]) -> Counted
+// The records after the head, by marks. What a record says ends the loop, so its number is counted by hand.
+fn rows_by(file: &[u8], states: u16, seen: &mut [u8]) -> Result<usize, Refusal>
     requires { (8 ≤ length file.now) × (256 ≤ length seen.old) }
     ensures { RowsOutcome states file.now result }
 {
     let mut at: usize = 8;
     let mut n: usize = 0;
-    loop {
-        let taken = take_record(file, seen, states, n, at);
-        if let Taken::Ends(c) = taken {
-            return c;
-        }
+    // A record tells whether there is one more: no range.
+    while take_record(file, seen, states, n, at)? {
         n += 1;
         at += 18;
     }
+    Ok(n)
 }
 
 // The same, with marks as many as they need: 300 bytes have no more than 16 transitions.
-fn check_rows(file: &[u8], states: u16) -> Counted
+fn check_rows(file: &[u8], states: u16) -> Result<usize, Refusal>
     requires { 8 ≤ length file.now }
     ensures { RowsOutcome states file.now result }
 {
     if file.len() <= 300 {
-        let mut few = [0u8; 256];
-        return rows_by(file, states, &mut few);
+        rows_by(file, states, &mut [0u8; 256])
+    } else {
+        rows_by(file, states, &mut [0u8; 2048])
     }
-    let mut seen = [0u8; 2048];
-    rows_by(file, states, &mut seen)
 }
 
 // The whole file tested, nothing stored.
-pub(crate) fn scan(file: &[u8]) -> FileRead
+pub(crate) fn scan(file: &[u8]) -> Result<Head, Refusal>
     ensures { Scanned file.now result }
 {
-    let h = head(file);
-    match h {
-        Opening::Shut(r) => refused(r),
-        Opening::Opened(states, initial) => {
-            let c = check_rows(file, states);
-            match c {
-                Counted::Stop(r) => refused(r),
-                Counted::Count(count) => FileRead {
-                    answer: Checked::Sound,
-                    states,
-                    initial,
-                    count,
-                },
-            }
-        }
-    }
+    let (states, initial) = head(file)?;
+    let count = check_rows(file, states)?;
+    Ok(Head {
+        states,
+        initial,
+        count,
+    })
 }
 
 // The transitions in the first n records, stored.
@@ -269,9 +216,7 @@ pub(crate) fn take_rows(file: &[u8], n: usize, cells: &mut Cells)
     requires { (n ≤ 256) × (8 + n * 18 ≤ length file.now) }
     ensures { cells.new ≡ put_all cells.old (recorded file.now n) }
 {
-    let mut i: usize = 0;
-    while i < n {
+    for i in 0..n {
         put_row(cells, i, record_at(file, i));
-        i += 1;
     }
 }

@@ -1,33 +1,38 @@
--- Whether a table keeps request order (02, R-1), and what the answer leaves in the lent memory.
-use Rattle.std.specs.Prelude.{◌≡◌, List, [], ◌∷◌, ℕ, suc, ◌≤◌, length}
+-- Whether a table keeps request order, and what the answer leaves in the lent memory.
+use Rattle.std.specs.Prelude.{Result, Ok, Err, ◌≡◌, List, [], ◌∷◌, ℕ, suc, ◌≤◌, length}
 use Rattle.model.specs.Answers.{Fields, fields}
 use Rattle.model.specs.Table.{Machine}
 use Rattle.model.specs.Trace.{steps}
 use Rattle.model.specs.Verdict.{Overtakes, ShowsLowest, TableOvertakes}
 use Rattle.model.specs.Shown.{early_word, ShowsOvertaking}
 use Rattle.model.specs.Stamps.{stamps_of}
+use Rattle.table.specs.declared.Refusal.{Refusal}
 use Rattle.table.specs.Refusal.{refused_fields}
 use Rattle.table.specs.Tests.{Test, unless, after_table}
 use Rattle.table.specs.Showing.{Showing, ShownOn}
 use Rattle.table_order.specs.declared.OnOrder.{OnOrder}
-use Rattle.table_order.specs.declared.OnOrder.TheVariants.{InOrder, Overtaken, Refused}
+use Rattle.table_order.specs.declared.OnOrder.TheVariants.{InOrder, Overtaken}
+
+-- in order or overtaken, or why neither is said
+abbrev pub Ordered : Type 0
+Ordered = Result OnOrder Refusal
 
 -- overtaken: 258, the steps K and M counted from 1, the last of which is M
-abbrev pub order_fields : OnOrder → Fields
-order_fields InOrder = fields 0 0 0 0
-order_fields (Overtaken k m) = fields 258 k m m
-order_fields (Refused r) = refused_fields r
+abbrev pub order_fields : Ordered → Fields
+order_fields (Ok InOrder) = fields 0 0 0 0
+order_fields (Ok (Overtaken k m)) = fields 258 k m m
+order_fields (Err r) = refused_fields r
 
--- "Refusals: 3, 4, 5, 8 as in a table verdict, with 270 places for each buffer."
+-- refused by 3, 4, 5 and 8 as a table verdict is, with 270 places for each buffer
 abbrev pub order_tests : Machine → List ℕ → List ℕ → List Test
 order_tests m trace₀ stamps₀ = after_table m (unless 8 ((270 ≤ length trace₀) × (270 ≤ length stamps₀)) ∷ [])
 
--- "Answer "in order" exactly if none can."
+-- in order: no step can be overtaken
 abbrev pub KeepsOrder : Machine → Type 0
 KeepsOrder m = TableOvertakes m → ⊥
 
--- "Otherwise show a trace of at most 270 steps ending at m, the pair, and one early word by 01's rule. The pair's first transition is the
--- lowest-numbered reachable one that can be overtaken."
+-- else a trace of at most 270 steps that ends at m, the pair, and one early word. The pair's first transition is the lowest-numbered reachable one
+-- that can be overtaken.
 pub record ShowsOvertaken (m : Machine) (shown : List ℕ) (k last : ℕ) : Type 0 where
   pub lowest : ShowsLowest Overtakes m shown k last
   pub shows : ShowsOvertaking (steps m.transitions shown) k last

@@ -1,4 +1,5 @@
 -- Two answers on one machine agree in all but the trace that is shown, and in everything if they show one trace.
+use Rattle.std.specs.Prelude.{Ok, Err}
 use mathlib.Core.Path.{◌≡◌, refl, sym, ap, subst, ◌∙◌}
 use mathlib.Core.List.{List, [], ◌∷◌}
 use Prim.Native.Nat.{ℕ, ◌-◌, ◌≤◌, ◌<◌}
@@ -16,36 +17,35 @@ use Rattle.table.specs.Showing.{shown_in, Agree, ByTrace}
 use Rattle.table.proofs.RefusalLaws.{refusal-some, refused-only}
 use Rattle.table.proofs.TestLaws.{Numbered}
 use Rattle.table.proofs.ShowingLaws.{Pinned, values, lowest-same, lowest-only, lowest_by, values-is, values_agree, values-only, values-plain-only}
-use Rattle.table_verdict.specs.declared.OnTable.{OnTable}
-use Rattle.table_verdict.specs.declared.OnTable.TheVariants.{Strict as StrictTable, Split, Turning, Refused}
-use Rattle.table_verdict.specs.OnTable.{table_fields, table_tests, TableShows, split_shown, turning_shown, TableOutcome}
+use Rattle.table_verdict.specs.declared.OnTable.TheVariants.{Strict as StrictTable, Split, Turning}
+use Rattle.table_verdict.specs.OnTable.{Judged, table_fields, table_tests, TableShows, split_shown, turning_shown, TableOutcome}
 use Rattle.table_verdict.specs.Agree.{SameShown}
 
 -- equal fields: equal answers
-pub answer-only : (a b : OnTable) → table_fields a ≡ table_fields b → a ≡ b
-answer-only StrictTable StrictTable e = refl
-answer-only StrictTable (Split i j n) e = absurd (omega (arith, ap (λ f. f.status) e))
-answer-only StrictTable (Turning k m) e = absurd (omega (arith, ap (λ f. f.status) e))
-answer-only StrictTable (Refused s) e = absurd (omega (arith, refusal-some s, ap (λ f. f.status) e))
-answer-only (Split i j n) StrictTable e = absurd (omega (arith, ap (λ f. f.status) e))
-answer-only (Split i j n) (Split x y l) e =
+pub answer-only : (a b : Judged) → table_fields a ≡ table_fields b → a ≡ b
+answer-only (Ok StrictTable) (Ok StrictTable) e = refl
+answer-only (Ok StrictTable) (Ok (Split i j n)) e = absurd (omega (arith, ap (λ f. f.status) e))
+answer-only (Ok StrictTable) (Ok (Turning k m)) e = absurd (omega (arith, ap (λ f. f.status) e))
+answer-only (Ok StrictTable) (Err s) e = absurd (omega (arith, refusal-some s, ap (λ f. f.status) e))
+answer-only (Ok (Split i j n)) (Ok StrictTable) e = absurd (omega (arith, ap (λ f. f.status) e))
+answer-only (Ok (Split i j n)) (Ok (Split x y l)) e =
     let p : i ≡ x = ap (λ f. f.first) e in
     let q : j ≡ y = ap (λ f. f.second) e in
     let r : n ≡ l = ap (λ f. f.steps) e in
     cc
-answer-only (Split i j n) (Turning k m) e = absurd (omega (arith, ap (λ f. f.status) e))
-answer-only (Split i j n) (Refused s) e = absurd (omega (arith, refusal-some s, ap (λ f. f.status) e))
-answer-only (Turning k m) StrictTable e = absurd (omega (arith, ap (λ f. f.status) e))
-answer-only (Turning k m) (Split i j n) e = absurd (omega (arith, ap (λ f. f.status) e))
-answer-only (Turning k m) (Turning x y) e =
+answer-only (Ok (Split i j n)) (Ok (Turning k m)) e = absurd (omega (arith, ap (λ f. f.status) e))
+answer-only (Ok (Split i j n)) (Err s) e = absurd (omega (arith, refusal-some s, ap (λ f. f.status) e))
+answer-only (Ok (Turning k m)) (Ok StrictTable) e = absurd (omega (arith, ap (λ f. f.status) e))
+answer-only (Ok (Turning k m)) (Ok (Split i j n)) e = absurd (omega (arith, ap (λ f. f.status) e))
+answer-only (Ok (Turning k m)) (Ok (Turning x y)) e =
     let p : k ≡ x = ap (λ f. f.first) e in
     let q : m ≡ y = ap (λ f. f.second) e in
     cc
-answer-only (Turning k m) (Refused s) e = absurd (omega (arith, refusal-some s, ap (λ f. f.status) e))
-answer-only (Refused r) StrictTable e = absurd (omega (arith, refusal-some r, ap (λ f. f.status) e))
-answer-only (Refused r) (Split i j n) e = absurd (omega (arith, refusal-some r, ap (λ f. f.status) e))
-answer-only (Refused r) (Turning k m) e = absurd (omega (arith, refusal-some r, ap (λ f. f.status) e))
-answer-only (Refused r) (Refused s) e = ap Refused (refused-only r s e)
+answer-only (Ok (Turning k m)) (Err s) e = absurd (omega (arith, refusal-some s, ap (λ f. f.status) e))
+answer-only (Err r) (Ok StrictTable) e = absurd (omega (arith, refusal-some r, ap (λ f. f.status) e))
+answer-only (Err r) (Ok (Split i j n)) e = absurd (omega (arith, refusal-some r, ap (λ f. f.status) e))
+answer-only (Err r) (Ok (Turning k m)) e = absurd (omega (arith, refusal-some r, ap (λ f. f.status) e))
+answer-only (Err r) (Err s) e = ap Err (refused-only r s e)
 
 module _ (m : Machine) where
   apart : Strict m → (f : Fields) (l s : List ℕ) → TableShows m f l s → ⊥
@@ -112,39 +112,39 @@ module _ (m : Machine) where
   table-by h _ _ (turning_shown e a) = rw ((values e).1, (values e).2) (lowest_by a.lowest a.lowest.pair.early.ordered)
 
   module _ (trace₀ stamps₀ : List ℕ) where
-    abbrev Out : OnTable → List ℕ → List ℕ → Type 0
+    abbrev Out : Judged → List ℕ → List ℕ → Type 0
     Out r trace stamps = TableOutcome m trace₀ stamps₀ (table_fields r) trace stamps
 
     numbered : Numbered (table_tests m trace₀ stamps₀)
     numbered = omega arith
 
     -- whatever traces they show, two outcomes agree in kind, a refusal's number and place, I and J, the transition at K
-    pub outcome-agree : (r s : OnTable) (trace stamps trace' stamps' : List ℕ) → Out r trace stamps → Out s trace' stamps'
+    pub outcome-agree : (r s : Judged) (trace stamps trace' stamps' : List ℕ) → Out r trace stamps → Out s trace' stamps'
         → Agree SameShown (table_fields r) trace (table_fields s) trace'
     outcome-agree r s trace stamps trace' stamps' x y = values_agree table-pinned (table_tests m trace₀ stamps₀) numbered trace₀ stamps₀ x y
 
     -- two outcomes that show one trace are equal: answer, trace places and stamp places
-    pub outcome-only : (r s : OnTable) (trace stamps trace' stamps' : List ℕ) → Out r trace stamps → Out s trace' stamps'
+    pub outcome-only : (r s : Judged) (trace stamps trace' stamps' : List ℕ) → Out r trace stamps → Out s trace' stamps'
         → shown_in (table_fields r) trace ≡ shown_in (table_fields s) trace' → (r ≡ s) × (trace ≡ trace') × (stamps ≡ stamps')
     outcome-only r s trace stamps trace' stamps' x y h =
         let o = values-only table-pinned (table_tests m trace₀ stamps₀) numbered trace₀ stamps₀ x y h in
         (answer-only r s o.0, o.1, o.2)
 
     -- two outcomes that show nothing are equal
-    pub outcome-plain-only : (r s : OnTable) (trace stamps trace' stamps' : List ℕ) → (table_fields r).status < 256 → Out r trace stamps → Out s trace' stamps'
+    pub outcome-plain-only : (r s : Judged) (trace stamps trace' stamps' : List ℕ) → (table_fields r).status < 256 → Out r trace stamps → Out s trace' stamps'
         → (r ≡ s) × (trace ≡ trace') × (stamps ≡ stamps')
     outcome-plain-only r s trace stamps trace' stamps' h x y =
         let o = values-plain-only table-pinned (table_tests m trace₀ stamps₀) numbered trace₀ stamps₀ x y h in
         (answer-only r s o.0, o.1, o.2)
 
     -- K is the first place of its transition in the shown trace, and M the trace's length
-    pub outcome-by-trace : (r : OnTable) (trace stamps : List ℕ) → (table_fields r).status ≡ 257 → Out r trace stamps
+    pub outcome-by-trace : (r : Judged) (trace stamps : List ℕ) → (table_fields r).status ≡ 257 → Out r trace stamps
         → ByTrace (shown_in (table_fields r) trace) (table_fields r).first (table_fields r).second
     outcome-by-trace r trace stamps q x =
         values-is table-pinned (table_tests m trace₀ stamps₀) numbered trace₀ stamps₀ (λ l. ByTrace l (table_fields r).first (table_fields r).second)
         (table-by q) (omega arith) x
 
 -- two table values of one machine get the same outcomes
-pub same-outcomes : (t u : Table) (trace₀ stamps₀ : List ℕ) → machine_of t ≡ machine_of u → (r : OnTable) (trace stamps : List ℕ)
+pub same-outcomes : (t u : Table) (trace₀ stamps₀ : List ℕ) → machine_of t ≡ machine_of u → (r : Judged) (trace stamps : List ℕ)
     → TableOutcome (machine_of t) trace₀ stamps₀ (table_fields r) trace stamps → TableOutcome (machine_of u) trace₀ stamps₀ (table_fields r) trace stamps
 same-outcomes t u trace₀ stamps₀ e r trace stamps = subst (λ m. TableOutcome m trace₀ stamps₀ (table_fields r) trace stamps) e

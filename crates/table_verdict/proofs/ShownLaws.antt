@@ -30,7 +30,7 @@ store-next : (p d : List ℕ) (k x : ℕ) → length p ≡ k → k < length d �
 store-next p d k x e h = rw (add-one k, drop-cons d k 0 h, append_assoc) (set_at p (get_or d k 0) (drop (suc k) d) x k e)
 
 -- the way to the state that transition i leaves has been written, with its row in hand
-module _ {c : List ℕ} {n : ℕ} {dist via : List ℕ} {i : ℕ} {trace : List ℕ} (sound : Sound c n) (room : TraceRoom (rows c n) dist via i trace)
+module _ {c : List Row} {n : ℕ} {dist via : List ℕ} {i : ℕ} {trace : List ℕ} (sound : Sound c n) (room : TraceRoom (rows c n) dist via i trace)
     (r : Row) (read : r ≡ row_of c i) {k : ℕ} {one : List ℕ} (wrote : WayStands c dist via r.from trace one k) where
   abbrev ts : List Transition
   ts = rows c n
@@ -76,7 +76,7 @@ module _ {c : List ℕ} {n : ℕ} {dist via : List ℕ} {i : ℕ} {trace : List 
       let path = way-traced sound room.reach room.places room.first room.marked wrote-way in
       let front : take k one ≡ way = way-front sound room.reach room.places room.first room.marked wrote-way in
       let q : after ≡ split_left c way (at ts i) (at ts j) stamps = rw (front, here, row-said sound j h e) at w in
-      let g = named-trace c n sound.few room.initial (at ts i).from way path in
+      let g = named-trace c n room.initial (at ts i).from way path in
       let y : Bounded c way = record {
         few = omega (arith, split-number, short);
         states = 32;

@@ -1,5 +1,5 @@
 -- The verdict on a whole table, and what it leaves in the lent memory.
-use Rattle.std.specs.Prelude.{◌≡◌, List, [], ◌∷◌, ◌++◌, ℕ, suc, ◌+◌, ◌≤◌, length}
+use Rattle.std.specs.Prelude.{Result, Ok, Err, ◌≡◌, List, [], ◌∷◌, ◌++◌, ℕ, suc, ◌+◌, ◌≤◌, length}
 use Rattle.model.specs.Answers.{Fields, fields}
 use Rattle.model.specs.Lists.{LeastPair}
 use Rattle.model.specs.Table.{Machine, at}
@@ -8,20 +8,25 @@ use Rattle.model.specs.Word.{Word, Activates}
 use Rattle.model.specs.Verdict.{Turns, ShowsLowest, Splits, SplitPair, Strict, OnlyTurns}
 use Rattle.model.specs.Shown.{Shows, split_word}
 use Rattle.model.specs.Stamps.{stamps_of, shown_stamps}
+use Rattle.table.specs.declared.Refusal.{Refusal}
 use Rattle.table.specs.Refusal.{refused_fields}
 use Rattle.table.specs.Tests.{Test, unless, after_table}
 use Rattle.table.specs.Showing.{Showing, ShownOn}
 use Rattle.table_verdict.specs.declared.OnTable.{OnTable}
-use Rattle.table_verdict.specs.declared.OnTable.TheVariants.{Strict as StrictTable, Split, Turning, Refused}
+use Rattle.table_verdict.specs.declared.OnTable.TheVariants.{Strict as StrictTable, Split, Turning}
+
+-- the verdict, or why there is none
+abbrev pub Judged : Type 0
+Judged = Result OnTable Refusal
 
 -- split: 256, the transitions I and J, n steps; turning: 257, the steps K and M counted from 1, the last of which is M
-abbrev pub table_fields : OnTable → Fields
-table_fields StrictTable = fields 0 0 0 0
-table_fields (Split i j n) = fields 256 i j n
-table_fields (Turning k m) = fields 257 k m m
-table_fields (Refused r) = refused_fields r
+abbrev pub table_fields : Judged → Fields
+table_fields (Ok StrictTable) = fields 0 0 0 0
+table_fields (Ok (Split i j n)) = fields 256 i j n
+table_fields (Ok (Turning k m)) = fields 257 k m m
+table_fields (Err r) = refused_fields r
 
--- "A table verdict always needs 270 trace places and 540 stamp places."
+-- a table verdict always needs 270 trace places and 540 stamp places
 abbrev pub table_tests : Machine → List ℕ → List ℕ → List Test
 table_tests m trace₀ stamps₀ = after_table m (unless 8 ((270 ≤ length trace₀) × (540 ≤ length stamps₀)) ∷ [])
 
@@ -38,7 +43,7 @@ pub record ShowsSplit (m : Machine) (i j : ℕ) (way : List ℕ) : Type 0 where
   pub act_first : Activates (steps m.transitions (way ++ (i ∷ []))) (word_after m way i j)
   pub act_second : Activates (steps m.transitions (way ++ (j ∷ []))) (word_after m way i j)
 
--- a shown turning trace: "shown with the lowest-numbered reachable transition that can be step k of a turning pair. The trace ends at m"
+-- a shown turning trace: step k is the lowest-numbered reachable transition that can be the first of a turning pair, and the trace ends at m
 pub record ShowsTurning (m : Machine) (shown : List ℕ) (k last : ℕ) : Type 0 where
   pub only : OnlyTurns m
   pub lowest : ShowsLowest Turns m shown k last

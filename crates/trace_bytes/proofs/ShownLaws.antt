@@ -1,68 +1,97 @@
 -- The stamps of the two words, put into the lent bytes one after the other.
-use Rattle.std.proofs.Common.{◌≡◌, ℕ, ◌+◌, ◌-◌, ◌*◌, ◌%◌, ◌^◌, ◌<◌, ◌≤◌, List, [], ◌∷◌, ◌++◌, length, get_or, take, drop, sym, refl, ap, ◌∙◌, arith}
-use Rattle.model.specs.Lists.{over}
-use Rattle.model.specs.Table.{Transition}
-use Rattle.model.specs.Shown.{early_gap_at, early_word, late_word}
+use Rattle.std.proofs.Common.{◌≡◌, ℕ, ◌-◌, ◌*◌, ◌/◌, ◌<◌, ◌≤◌, List, [], ◌++◌, length, take, drop, sym, ap, ◌∙◌, append-nil, take-append-drop, arith, length-append, length-take, length-drop, take_all, drop_of_length-le, take_at, drop_at}
+use Rattle.model.specs.Shown.{early_word}
 use Rattle.model.specs.Stamps.{stamps_of}
-use Rattle.model.proofs.StampLaws.{early-stamps, early-late}
-use Rattle.wire.specs.Bytes.{bytes, placed}
-use Rattle.wire.proofs.Bytes.{length-bytes, bytes-append, placed-fits, placed-none, placed-more, length-placed}
+use Rattle.model.proofs.StampLaws.{early-stamps}
+use Rattle.wire.specs.Bytes.{les, wholes}
+use Rattle.parts.specs.Parts.{left_over}
+use Rattle.parts.proofs.WholeLaws.{wholes_long, les-take, front-places, back-places, back-rest, cut_fits}
 use Rattle.table.specs.declared.Row.{Row}
-use Rattle.table.specs.Rows.{row_of, said, named}
+use Rattle.table.specs.Rows.{named}
 use Rattle.table.proofs.NamedLaws.{length-named}
-use Rattle.words.specs.Left.{wrapped}
-use Rattle.words.proofs.WordLaws.{length-wrapped, so_far, Stamping, stamping-none, so-far-none, length_so_far, so-far-all, stamping-more, so_far_more, part-over}
+use Rattle.words.specs.Left.{wrapped, word_left, words_left}
+use Rattle.words.proofs.WordLaws.{length-wrapped, word_fits, both-written}
 
--- placed at the front
-placed-over : (l new : List ℕ) → length new ≤ length l → placed l 0 new ≡ over new l
-placed-over l new h =
-    let z : 0 + length new ≡ length new = omega arith in
-    placed-fits l 0 new (omega arith) ∙ rw z
+some : 0 < 4
+some = omega arith
 
--- the stamps of the first i steps are put, and the rest is as it was
-pub record Putting (c l : List ℕ) (k m : ℕ) (out₀ out : List ℕ) (stamp i : ℕ) : Type 0 where
-  pub room : length l * 4 ≤ length out₀
-  pub long : length out ≡ length out₀
-  pub stamping : Stamping c l k m stamp i
-  pub is : out ≡ placed out₀ 0 (bytes 4 (so_far c l k m i))
+-- the part from the n-th number on was lent out of b and came back as part
+module _ (b part : List ℕ) (n : ℕ) (h : n ≤ length b / 4) where
+  back : List ℕ
+  back = part ++ drop (length b - n * 4) (drop (n * 4) b)
 
-module _ {c l : List ℕ} {k m : ℕ} {out₀ : List ℕ} where
-  pub putting-none : length l * 4 ≤ length out₀ → Putting c l k m out₀ out₀ 0 0
-  unfolding bytes
-  putting-none h = record { room = h; long = refl; stamping = stamping-none; is = rw (so-far-none c l k m) (sym (placed-none out₀ 0 (omega arith))) }
+  lent : take (length b - n * 4) (drop (n * 4) b) ≡ drop (n * 4) b
+  lent = take_all (length b - n * 4) (drop (n * 4) b) (simp length-drop (omega arith))
 
-  module _ {out : List ℕ} {stamp i : ℕ} (p : Putting c l k m out₀ out stamp i) where
-    size : length (bytes 4 (so_far c l k m i)) ≡ i * 4
-    size = length-bytes 4 (so_far c l k m i) ∙ ap (λ (n : ℕ). n * 4) (length_so_far p.stamping)
+  front : length (take (n * 4) b) ≡ n * 4
+  front = simp length-take (omega (arith, cut_fits 4 some b n h))
 
-    pub putting-all : length l ≤ i → out ≡ over (bytes 4 (wrapped (stamps_of (early_word (named c l) k m)))) out₀
-    putting-all h =
-        rw (← so-far-all p.stamping h) (p.is ∙ placed-over out₀ (bytes 4 (so_far c l k m i)) (omega (arith, size, p.room, p.stamping.within)))
+  whole : back ≡ part
+  unfolding back
+  whole = rw (drop_of_length-le (drop (n * 4) b) {i = length b - n * 4} (simp length-drop (omega arith))) (append-nil part)
 
-    -- the code comes to step i, whose row is s, with the gap g, and puts the stamp a
-    pub putting-more : i < length l → (s : Row) → s ≡ row_of c (get_or l i 0) → (g : ℕ) → g ≡ early_gap_at k m i (said s)
-        → (a : ℕ) → a ≡ (stamp + g) % 2 ^ 32 → (out' : List ℕ) → out' ≡ placed out (i * 4) (bytes 4 (a ∷ [])) → Putting c l k m out₀ out' a (i + 1)
-    putting-more here s es g eg a ea out' put =
-        let one : length (bytes 4 (a ∷ [])) ≡ 4 = length-bytes 4 (a ∷ []) in
-        let fits : i * 4 + length (bytes 4 (a ∷ [])) ≤ length out₀ = omega (arith, p.room) in
-        record {
-          room = p.room;
-          long = ap length put ∙ length-placed out (i * 4) (bytes 4 (a ∷ [])) (omega (arith, p.long)) ∙ p.long;
-          stamping = stamping-more p.stamping here s es g eg a ea;
-          is = rw (so_far_more p.stamping here s es g eg a ea, bytes-append 4 (so_far c l k m i) (a ∷ []))
-              ((rw p.is at put) ∙ placed-more out₀ 0 (i * 4) (bytes 4 (so_far c l k m i)) (bytes 4 (a ∷ [])) (omega (arith, size)) fits);
-        }
+  now : List ℕ
+  now = take (n * 4) b ++ back
 
--- the two words, the early one put back as the part that was lent
-pub both-put : (c l : List ℕ) (k m : ℕ) (out₀ out part : List ℕ) → length l * 8 ≤ length out₀
-    → out ≡ over (bytes 4 (wrapped (stamps_of (early_word (named c l) k k)))) out₀
-    → part ≡ over (bytes 4 (wrapped (stamps_of (early_word (named c l) k m)))) (take (length out - length l * 4) (drop (length l * 4) out))
-    → take (length l * 4) out ++ (part ++ drop (length out - length l * 4) (drop (length l * 4) out))
-    ≡ over (bytes 4 (wrapped (stamps_of (late_word (named c l))) ++ wrapped (stamps_of (early_word (named c l) k m)))) out₀
-both-put c l k m out₀ out part room first second =
-    let tr : List Transition = named c l in
-    let word : ℕ → List ℕ = λ j. wrapped (stamps_of (early_word tr k j)) in
-    let size : (j : ℕ) → length (bytes 4 (word j)) ≡ length l * 4 =
-    λ j. length-bytes 4 (word j) ∙ ap (λ (n : ℕ). n * 4) (length-wrapped (stamps_of (early_word tr k j)) ∙ early-stamps tr k j ∙ length-named c l) in
-    rw (← early-late tr k, bytes-append 4 (word k) (word m))
-    (part-over (bytes 4 (word k)) (bytes 4 (word m)) out₀ out part (length l * 4) (size k) (omega (arith, size m)) first second)
+  cut : n ≤ length now / 4
+  unfolding now
+  cut = omega (arith, front, length-append (take (n * 4) b) back)
+
+  after : drop (n * 4) now ≡ part
+  unfolding now
+  after = drop_at (take (n * 4) b) back (n * 4) front ∙ whole
+
+  before : les 4 n now 0 ≡ take n (wholes 4 b)
+  unfolding now
+  before =
+      sym (les-take 4 n (take (n * 4) b ++ back) (n * 4) 0 (omega arith))
+      ∙ rw (take_at (take (n * 4) b) back (n * 4) front) (les-take 4 n b (n * 4) 0 (omega arith))
+      ∙ front-places 4 some b n h
+
+  numbers : wholes 4 now ≡ take n (wholes 4 b) ++ wholes 4 part
+  numbers =
+      sym (take-append-drop n (wholes 4 now))
+      ∙ rw (← front-places 4 some now n cut, ← back-places 4 some now n cut, before, after)
+
+  beside : left_over 4 now ≡ left_over 4 part
+  beside = sym (back-rest 4 some now n cut) ∙ rw after
+
+  lent-numbers : wholes 4 (take (length b - n * 4) (drop (n * 4) b)) ≡ drop n (wholes 4 b)
+  lent-numbers = rw lent (back-places 4 some b n h)
+
+  lent-beside : left_over 4 (take (length b - n * 4) (drop (n * 4) b)) ≡ left_over 4 b
+  lent-beside = rw lent (back-rest 4 some b n h)
+
+-- what one call left: its word in the numbers, and nothing beside them
+pub record Left (c : List Row) (l : List ℕ) (k m : ℕ) (out₀ out : List ℕ) : Type 0 where
+  pub is : wholes 4 out ≡ word_left c l k m (wholes 4 out₀)
+  pub rest : left_over 4 out ≡ left_over 4 out₀
+
+-- what both left, the early word put back as the part that was lent
+module _ (c : List Row) (l : List ℕ) (k m : ℕ) (out₀ out part : List ℕ) (room : length l * 8 ≤ length out₀) (first : Left c l k k out₀ out)
+    (second : Left c l k m (take (length out - length l * 4) (drop (length l * 4) out)) part) where
+  abbrev n : ℕ
+  n = length l
+
+  fits : n ≤ length out / 4
+  fits =
+      let w : List ℕ = wrapped (stamps_of (early_word (named c l) k k)) in
+      let size : length w ≡ n = length-wrapped (stamps_of (early_word (named c l) k k)) ∙ early-stamps (named c l) k k ∙ length-named c l in
+      let e : wholes 4 out ≡ w ++ drop n (wholes 4 out₀) = first.is ∙ word_fits c l k k (wholes 4 out₀) (omega (arith, wholes_long 4 out₀)) in
+      omega (arith, wholes_long 4 out, ap length e ∙ length-append w (drop n (wholes 4 out₀)), size)
+
+  pub both-is : wholes 4 (take (n * 4) out ++ (part ++ drop (length out - n * 4) (drop (n * 4) out))) ≡ words_left c l k m (wholes 4 out₀)
+  unfolding now back
+  both-is =
+      let a : List ℕ = wholes 4 out in
+      let all : take (length a - n) (drop n a) ≡ drop n a = take_all (length a - n) (drop n a) (simp length-drop (omega arith)) in
+      let none : drop (length a - n) (drop n a) ≡ [] = drop_of_length-le (drop n a) {i = length a - n} (simp length-drop (omega arith)) in
+      let part-is : wholes 4 part ≡ word_left c l k m (take (length a - n) (drop n a)) =
+      rw all (rw (lent-numbers out part n fits) at second.is) in
+      let both : take n a ++ (wholes 4 part ++ drop (length a - n) (drop n a)) ≡ words_left c l k m (wholes 4 out₀) =
+      both-written c l k m (wholes 4 out₀) a (wholes 4 part) (omega (arith, wholes_long 4 out₀)) first.is part-is in
+      numbers out part n fits ∙ rw (none, append-nil (wholes 4 part)) at both
+
+  pub both-rest : left_over 4 (take (n * 4) out ++ (part ++ drop (length out - n * 4) (drop (n * 4) out))) ≡ left_over 4 out₀
+  unfolding now back
+  both-rest = beside out part n fits ∙ second.rest ∙ lent-beside out part n fits ∙ first.rest

@@ -10,11 +10,11 @@ use Rattle.verdict.specs.OnTrace.{TraceSays}
 use Rattle.places.specs.OnFile.{on_file}
 use Rattle.places.specs.Places.{path_in, trace_test}
 
--- the tests after the file's: "a trace verdict, steady or not, needs two stamps per step"
+-- the tests after the file's: steady or not, two stamps per step are asked for
 abbrev pub bytes_tests : Machine → List ℕ → List ℕ → List Test
 bytes_tests m trace stamps₀ = trace_test m trace ∷ unless 8 (2 * (length trace / 2) ≤ length stamps₀ / 4) ∷ []
 
--- with a machine that was read: what the verdict on values says, the stamps of both words in bytes; "A refusal .. writes nothing"
+-- with a machine that was read: what the verdict on values says, the stamps of both words in bytes; a refusal writes nothing
 abbrev pub TraceOnMachine : Machine → List ℕ → List ℕ → Fields → List ℕ → Type 0
 TraceOnMachine m trace stamps₀ f stamps =
     Answered (bytes_tests m trace stamps₀)

@@ -1,38 +1,21 @@
 // The stamps of the two words that are shown, four bytes each, made within the lent bytes themselves.
-ghost use Rattle.std.specs.Prelude.{◌≡◌, ◌*◌, ◌≤◌, ◌++◌, length};
-ghost use Rattle.model.specs.Lists.{over};
-ghost use Rattle.model.specs.Shown.{early_word, late_word};
-ghost use Rattle.model.specs.Stamps.{stamps_of};
-ghost use Rattle.wire.specs.Bytes.{bytes};
-ghost use Rattle.table.specs.Rows.{named};
-ghost use Rattle.words.specs.Left.{wrapped};
+ghost use Rattle.std.specs.Prelude.{◌≡◌, ◌*◌, ◌≤◌, length};
+ghost use Rattle.wire.specs.Bytes.{wholes};
+ghost use Rattle.parts.specs.Parts.{left_over};
+ghost use Rattle.words.specs.Left.{words_left};
 
-use table::Cells;
-
-// The word that is early for the steps k+1 to m, from stamp 0; with m = k it is the late word.
-fn put_word(cells: &Cells, trace: &[u16], k: usize, m: usize, out: &mut [u8])
-    requires { length trace.now * 4 ≤ length out.old }
-    ensures { out.new
-        ≡ over (bytes 4 (wrapped (stamps_of (early_word (named cells.now trace.now) k m)))) out.old }
-{
-    let mut stamp: u32 = 0;
-    let mut i: usize = 0;
-    while i < trace.len() {
-        let gap = words::gap_at(words::step(cells, trace, i), i, k, m);
-        stamp = std::num::wrapping_add_u32(stamp, gap);
-        wire::put_fours(out, i * 4, &[stamp; 1]);
-        i += 1;
-    }
-}
+use layout::Fours;
+use table::Row;
+use words::write_word_on;
 
 // The late word, then the early word for the steps k and m in the part that begins after it.
-pub(crate) fn put_words(cells: &Cells, trace: &[u16], k: usize, m: usize, out: &mut [u8])
+// Beside `words::write_words`, since each lends the writer of a word the part at the trace's length: that many numbers there, four bytes for each here.
+pub(crate) fn put_words(rows: &[Row], trace: &[u16], k: usize, m: usize, out: &mut [u8])
     requires { length trace.now * 8 ≤ length out.old }
-    ensures { out.new
-        ≡ over (bytes 4 (wrapped (stamps_of (late_word (named cells.now trace.now)))
-        ++ wrapped (stamps_of (early_word (named cells.now trace.now) k m)))) out.old }
+    ensures is { wholes 4 out.new ≡ words_left rows.now trace.now k m (wholes 4 out.old) }
+    ensures rest { left_over 4 out.new ≡ left_over 4 out.old }
 {
-    put_word(cells, trace, k, k, out);
+    write_word_on::<Fours>(rows, trace, k, k, out);
     let at = trace.len() * 4;
-    put_word(cells, trace, k, m, &mut out[at..]);
+    write_word_on::<Fours>(rows, trace, k, m, &mut out[at..]);
 }

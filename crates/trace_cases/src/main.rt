@@ -1,5 +1,5 @@
 #![tactic(auto)]
-// Document 01's replay and trace-verdict cases and document 02's of a night, run: each answer, what the call leaves in the lent memory, and whether
+// Cases of replay, of a trace's verdict and of a night, run: each answer, what the call leaves in the lent memory, and whether
 // the rest is as it was lent.
 use std::io;
 

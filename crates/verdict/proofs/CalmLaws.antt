@@ -12,9 +12,10 @@ use Rattle.model.specs.Lists.{total}
 use Rattle.model.specs.Table.{Transition, InRange, at, none}
 use Rattle.model.proofs.Lists.{all-at, all_drop}
 use Rattle.table.specs.declared.Row.{Row}
-use Rattle.table.specs.Rows.{row_of, said, named}
-use Rattle.table.proofs.NamedLaws.{length-named, step-named}
-use Rattle.words.specs.Left.{Bounded}
+use Rattle.table.specs.Rows.{row_of, said}
+use Rattle.verdict.specs.declared.line.Line.{Line}
+use Rattle.verdict.specs.Line.{along}
+use Rattle.verdict.proofs.LineLaws.{fine, length-along, step-along}
 use Rattle.verdict.specs.declared.calm.Soon.{Soon}
 use Rattle.verdict.specs.Times.{number_of, Numbered}
 use Rattle.verdict.specs.Calm.{Over, standing, Calm, Seen, LookedBack}
@@ -117,36 +118,34 @@ sum-from : (f : Transition → ℕ) (l : List Transition) (p : ℕ) → p < leng
 sum-from f l p h = rw (drop-cons l p none h)
 
 -- step p arrives at `arrival`, counted back, and the numbers of the later steps are filled in
-pub record Back (c l early : List ℕ) (arrival p : ℕ) : Type 0 where
-  pub ready : Bounded c l
-  pub within : p ≤ length l
-  pub time : arrival + total (λ t. t.u) (drop p (named c l)) ≡ 2096640
-  pub numbers : Numbered (named c l) early p
+pub record Back (o : Line) (early : List ℕ) (arrival p : ℕ) : Type 0 where
+  pub within : p ≤ length o.trace.now
+  pub time : arrival + total (λ t. t.u) (drop p (along o)) ≡ 2096640
+  pub numbers : Numbered (along o) early p
 
-module _ {c l early : List ℕ} where
-  pub back_none : Bounded c l → length early ≡ 512 → Back c l early 2096640 (length l)
-  back_none r size =
-      let e : drop (length l) (named c l) ≡ [] = drop_of_length-le (named c l) {i = length l} (omega (arith, length-named c l)) in
+module _ {o : Line} {early : List ℕ} where
+  pub back_none : length early ≡ 512 → Back o early 2096640 (length o.trace.now)
+  back_none size =
+      let e : drop (length o.trace.now) (along o) ≡ [] = drop_of_length-le (along o) {i = length o.trace.now} (omega (arith, length-along o)) in
       record {
-        ready = r;
         within = omega arith;
         time = rw e (omega arith);
-        numbers = record { size = size; is = λ j a b. absurd (omega (arith, length-named c l)) };
+        numbers = record { size = size; is = λ j a b. absurd (omega (arith, length-along o)) };
       }
 
   -- the code looks at step p, whose row is s
-  module _ {arrival q : ℕ} (b : Back c l early arrival q) (h : 0 < q) (s : Row) (read : s ≡ row_of c (get_or l (q - 1) 0)) where
+  module _ {arrival q : ℕ} (b : Back o early arrival q) (h : 0 < q) (s : Row) (read : s ≡ row_of o.rows.now (get_or o.trace.now (q - 1) 0)) where
     abbrev tr : List Transition
-    tr = named c l
+    tr = along o
 
     inside : q - 1 < length tr
-    inside = omega (arith, length-named c l, b.within)
+    inside = omega (arith, length-along o, b.within)
 
     es : said s ≡ at tr (q - 1)
-    es = step-named c l (q - 1) (omega (arith, b.within)) s read
+    es = step-along o (q - 1) (omega (arith, b.within)) s read
 
-    fine : InRange b.ready.states (at tr (q - 1))
-    fine = all-at none b.ready.ranged (q - 1) inside
+    here : InRange 32 (at tr (q - 1))
+    here = all-at none (fine o) (q - 1) inside
 
     later : arrival + total (λ t. t.u) (drop (suc (q - 1)) tr) ≡ 2096640
     later = let z : suc (q - 1) ≡ q = omega arith in rw z b.time
@@ -157,26 +156,25 @@ module _ {c l early : List ℕ} where
       arith,
       later,
       sum-from (λ t. t.u) tr (q - 1) inside,
-      sums-small (all_drop (q - 1) b.ready.ranged) (omega (arith, length-drop (q - 1) tr, length-named c l, b.ready.few)),
+      sums-small (all_drop (q - 1) (fine o)) (omega (arith, length-drop (q - 1) tr, length-along o, o.few)),
       ap (λ t. t.u) es,
       ap (λ t. t.d) es,
       ap (λ t. t.output) es,
-      fine.late,
-      fine.answers,
+      here.late,
+      here.answers,
     )
 
     pub number-here : (e : ℕ) → e ≡ (arrival + s.d) * 256 + s.output → e ≡ number_of tr (q - 1)
     number-here e is = omega (arith, is, later, ap (λ t. t.d) es, ap (λ t. t.output) es)
 
-    pub back_more : (e : ℕ) → e ≡ (arrival + s.d) * 256 + s.output → Back c l (set early (q - 1) e) (arrival - s.u) (q - 1)
+    pub back_more : (e : ℕ) → e ≡ (arrival + s.d) * 256 + s.output → Back o (set early (q - 1) e) (arrival - s.u) (q - 1)
     back_more e is = record {
-      ready = b.ready;
       within = omega (arith, b.within);
       time = omega (arith, back-small, later, sum-from (λ t. t.u) tr (q - 1) inside, ap (λ t. t.u) es);
       numbers = record {
         size = length-set early (q - 1) e ∙ b.numbers.size;
         is = λ j x y. dite (ℕ_discrete j (q - 1))
-            (λ i. rw (i, get_or-set_same early (q - 1) e 0 (omega (arith, b.numbers.size, inside, length-named c l, b.ready.few))) (number-here e is))
+            (λ i. rw (i, get_or-set_same early (q - 1) e 0 (omega (arith, b.numbers.size, inside, length-along o, o.few))) (number-here e is))
             (λ d. rw (get_or-set_other early (q - 1) j e 0 d) (b.numbers.is j (omega arith) y));
       };
     }
@@ -188,12 +186,12 @@ calm-standing {k = k} s h c =
     record { none = λ m a b. rw (s.is k (omega arith) h, s.is m (omega arith) b) (c.none m a b) }
 
 -- all steps were looked at
-pub looked-back : {c l early lows : List ℕ} {calm : List Bool} {s : Soon} {first arrival : ℕ} → Back c l early arrival 0
-    → Looking (number_of (named c l)) (length l) lows calm s first 0 → LookedBack (named c l) early lows calm first
-looked-back {c} {l} {early} {lows} {calm} {first = first} b k =
-    let n : length l ≡ length (named c l) = sym (length-named c l) in
-    let seen : Seen (number_of (named c l)) (length (named c l)) lows calm 0 = rw n at k.seen in
-    let before : (i : ℕ) → 0 ≤ i → i < first → Calm (number_of (named c l)) (length (named c l)) i = rw n at k.before in
+pub looked-back : {o : Line} {early lows : List ℕ} {calm : List Bool} {s : Soon} {first arrival : ℕ} → Back o early arrival 0
+    → Looking (number_of (along o)) (length o.trace.now) lows calm s first 0 → LookedBack (along o) early lows calm first
+looked-back {o} {early} {lows} {calm} {first = first} b k =
+    let n : length o.trace.now ≡ length (along o) = sym (length-along o) in
+    let seen : Seen (number_of (along o)) (length (along o)) lows calm 0 = rw n at k.seen in
+    let before : (i : ℕ) → 0 ≤ i → i < first → Calm (number_of (along o)) (length (along o)) i = rw n at k.before in
     record {
       numbers = b.numbers;
       seen = record {

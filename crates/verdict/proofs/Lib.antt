@@ -1,3 +1,4 @@
+pub mod LineLaws
 pub mod PairLaws
 pub mod JudgeLaws
 pub mod CalmLaws

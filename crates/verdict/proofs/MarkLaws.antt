@@ -3,26 +3,23 @@ use mathlib.Core.Path.{◌≡◌, refl}
 use mathlib.Core.Logic.{⊎_elim, dite}
 use mathlib.Core.Bool.{Bool, true, false, not, ◌&&◌, ◌||◌}
 use mathlib.Core.List.{List}
-use Prim.Native.Nat.{ℕ, ◌+◌, ◌*◌, ◌/◌, ◌%◌, ◌≤◌, ◌<◌}
+use Prim.Native.Nat.{ℕ, ◌+◌, ◌*◌, ◌%◌, ◌≤◌, ◌<◌}
 use native.Mathlib.Omega.{arith}
 use native.Mathlib.Decide.{dec_lt}
 use native.Mathlib.Nat.{eq-or-lt_of_le}
 use borrow.Author.Tests.{lt-ltb, le-leb, ne_eqb}
 use lib.Dec.{ltb, leb, eqb}
 use lib.ListN.{get_or}
+use Rattle.std.proofs.lemmas.Bool.{both_ways}
 use Rattle.verdict.specs.declared.marks.Mark.{Mark}
 use Rattle.verdict.specs.Marks.{Fits, Clear, mark_at, Covers}
-
--- a test has one answer
-pub apart : {b : Bool} → b ≡ true → b ≡ false → ⊥
-apart p q = let z : ◌≡◌ {A = ℕ} 0 1 = cc in omega arith
 
 -- what the loop asks of step m
 pub asked-fits : (any : Bool) {early late : List ℕ} (q : Mark) (m : ℕ)
     → any || ((ltb (get_or early m 0) q.time && leb q.late (get_or late m 0)) && not (eqb (get_or early m 0 % 256) q.letter)) ≡ false
     → (any ≡ false) × (Fits early late q m → ⊥)
-asked-fits true q m e = absurd (apart refl e)
-asked-fits false q m e = (refl, λ f. apart refl (rw (lt-ltb _ _ f.before, le-leb _ _ f.after, ne_eqb _ _ f.unlike) at e))
+asked-fits true q m e = absurd (both_ways _ e refl)
+asked-fits false q m e = (refl, λ f. both_ways _ (rw (lt-ltb _ _ f.before, le-leb _ _ f.after, ne_eqb _ _ f.unlike) at e) refl)
 
 pub covers-trans : {a b c : Mark} → Covers a b → Covers b c → Covers a c
 covers-trans x y = record {
@@ -34,9 +31,6 @@ covers-trans x y = record {
 module _ {early late : List ℕ} {q : Mark} where
   pub clear-more : {a m : ℕ} → Clear early late q a m → (Fits early late q m → ⊥) → Clear early late q a (m + 1)
   clear-more c n = record { none = λ j h l f. ⊎_elim (λ e. n (rw e at f)) (λ i. c.none j h i f) (eq-or-lt_of_le (omega arith)) }
-
-  pub clear-part : {a b c d : ℕ} → Clear early late q a b → a ≤ c → d ≤ b → Clear early late q c d
-  clear-part x h i = record { none = λ m g l. x.none m (omega arith) (omega arith) }
 
   pub clear-join : {a b c : ℕ} → Clear early late q a b → Clear early late q b c → Clear early late q a c
   clear-join {b = b} x y = record { none = λ m h l f. dite (dec_lt m b) (λ i. x.none m h i f) (λ n. y.none m (omega arith) l f) }
@@ -55,23 +49,3 @@ pub record Marked (early late : List ℕ) (calm : List Bool) (i : ℕ) (q : Mark
   pub from : 8 * i ≤ k
   pub to : k ≤ 8 * i + 8
   pub all : (j : ℕ) → 8 * i ≤ j → j < k → get_or calm j false ≡ false → Covers q (mark_at early late j)
-
-module _ {early late : List ℕ} {calm : List Bool} {i : ℕ} where
-  module _ {q : Mark} {k : ℕ} (s : Marked early late calm i q k) (h : k < 8 * i + 8) where
-    pub marked_more : {r : Mark} → Covers r q → Covers r (mark_at early late k) → Marked early late calm i r (k + 1)
-    marked_more a b = record {
-      from = omega (arith, s.from);
-      to = omega arith;
-      all = λ j g l e. ⊎_elim (λ (p : j ≡ k). rw p b) (λ (p : j < k). covers-trans a (s.all j g p e)) (eq-or-lt_of_le (omega arith));
-    }
-
-    pub marked-calm : get_or calm k false ≡ true → Marked early late calm i q (k + 1)
-    marked-calm c = record {
-      from = omega (arith, s.from);
-      to = omega arith;
-      all = λ j g l e. ⊎_elim (λ (p : j ≡ k). absurd (apart c (rw p at e))) (λ (p : j < k). s.all j g p e) (eq-or-lt_of_le (omega arith));
-    }
-
-  pub marked_all : {q : Mark} {k : ℕ} → Marked early late calm i q k → 8 * i + 8 ≤ k → (j : ℕ) → j / 8 ≡ i → get_or calm j false ≡ false
-      → Covers q (mark_at early late j)
-  marked_all s h j e = s.all j (omega arith) (omega arith)

@@ -1,4 +1,5 @@
 -- The search for the least turning pair, over the steps of a trace.
+use Rattle.std.specs.Prelude.{Some, None}
 use mathlib.Core.Path.{◌≡◌, ap, ◌∙◌}
 use mathlib.Core.Logic.{inl, inr, ⊎_elim, dite}
 use mathlib.Core.List.{List, [], ◌∷◌}
@@ -13,15 +14,14 @@ use Rattle.model.specs.Table.{Transition, InRange, at, none}
 use Rattle.model.specs.Shown.{late_gap}
 use Rattle.model.specs.Span.{sum_u, sum_late}
 use Rattle.model.specs.Criterion.{Crosses, Spent, Criterion}
-use Rattle.model.proofs.CriterionLaws.{spent-none, unspent}
+use Rattle.model.proofs.CriterionLaws.{spent-none}
 use Rattle.model.proofs.Words.{late-most}
 use Rattle.model.proofs.Lists.{total-append, total-const, length-between, all-at, all-between, all-total}
 use Rattle.table.specs.declared.Row.{Row}
-use Rattle.table.specs.Rows.{row_of, said, named}
-use Rattle.table.proofs.NamedLaws.{length-named, step-named}
-use Rattle.words.specs.Left.{Bounded}
-use Rattle.verdict.specs.declared.pairs.Partner.TheVariants.{With, Alone}
-use Rattle.verdict.specs.declared.pairs.Pair.TheVariants.{At, Nowhere}
+use Rattle.table.specs.Rows.{row_of, said}
+use Rattle.verdict.specs.declared.line.Line.{Line}
+use Rattle.verdict.specs.Line.{along}
+use Rattle.verdict.proofs.LineLaws.{fine, length-along, step-along}
 use Rattle.verdict.specs.Pairs.{PartnerOf, PairOf, Passed}
 
 -- the sum over the steps after k and before m
@@ -55,45 +55,41 @@ sum-grows f tr k m j h =
     rw (e, take-add (m - k) (j - k - (m - k)) l) (omega (arith, total-append f (take (m - k) l) (take (j - k - (m - k)) (drop (m - k) l))))
 
 -- the search from k, which is f, stands before step m: the sums over the steps between, none of which turns with k
-pub record Looked (c l : List ℕ) (k : ℕ) (f : Transition) (m u late : ℕ) : Type 0 where
-  pub ready : Bounded c l
-  pub first : f ≡ at (named c l) k
+pub record Looked (p : Line) (k : ℕ) (f : Transition) (m u late : ℕ) : Type 0 where
+  pub first : f ≡ at (along p) k
   pub after : k < m
-  pub near : m ≤ k + 239
-  pub within : m ≤ length l
-  pub low : u ≡ sofar (λ t. t.u) (named c l) k m
-  pub high : late ≡ sofar late_gap (named c l) k m
-  pub none_yet : (j : ℕ) → j < m → Criterion (named c l) k j → ⊥
+  pub within : m ≤ length p.trace.now
+  pub low : u ≡ sofar (λ t. t.u) (along p) k m
+  pub high : late ≡ sofar late_gap (along p) k m
+  pub none_yet : (j : ℕ) → j < m → Criterion (along p) k j → ⊥
 
-module _ {c l : List ℕ} {k : ℕ} where
-  pub looked-first : Bounded c l → k < length l → (s : Row) → s ≡ row_of c (get_or l k 0) → Looked c l k (said s) (k + 1) 0 0
-  looked-first r h s e =
+module _ {p : Line} {k : ℕ} where
+  pub looked-first : k < length p.trace.now → (s : Row) → s ≡ row_of p.rows.now (get_or p.trace.now k 0) → Looked p k (said s) (k + 1) 0 0
+  looked-first h s e =
       let z : k + 1 - suc k ≡ 0 = omega arith in
       record {
-        ready = r;
-        first = step-named c l k h s e;
+        first = step-along p k h s e;
         after = omega arith;
-        near = omega arith;
         within = omega arith;
         low = rw z;
         high = rw z;
         none_yet = λ j b x. omega (arith, x.ordered);
       }
 
-  pub looked-last : {f : Transition} {m u late : ℕ} → Looked c l k f m u late → length l ≤ m → PartnerOf (named c l) k Alone
-  looked-last seen h j x = seen.none_yet j (omega (arith, x.inside, length-named c l)) x
+  pub looked-last : {f : Transition} {m u late : ℕ} → Looked p k f m u late → length p.trace.now ≤ m → PartnerOf (along p) k None
+  looked-last seen h j x = seen.none_yet j (omega (arith, x.inside, length-along p)) x
 
 -- the code looks at step m, whose row is s
-module _ {c l : List ℕ} {k : ℕ} {f : Transition} {m u late : ℕ} (seen : Looked c l k f m u late) (here : m < length l)
-    (s : Row) (read : s ≡ row_of c (get_or l m 0)) (g : ℕ) (gap : g ≡ late_gap (said s)) where
+module _ {p : Line} {k : ℕ} {f : Transition} {m u late : ℕ} (seen : Looked p k f m u late) (here : m < length p.trace.now)
+    (s : Row) (read : s ≡ row_of p.rows.now (get_or p.trace.now m 0)) (g : ℕ) (gap : g ≡ late_gap (said s)) where
   abbrev tr : List Transition
-  tr = named c l
+  tr = along p
 
   es : said s ≡ at tr m
-  es = step-named c l m here s read
+  es = step-along p m here s read
 
   inside : m < length tr
-  inside = rw (length-named c l) here
+  inside = rw (length-along p) here
 
   next_low : u + s.u ≡ sum_u tr k m
   next_low = omega (arith, ap (λ t. t.u) es, seen.low, sum-next (λ t. t.u) tr k m seen.after inside)
@@ -103,44 +99,33 @@ module _ {c l : List ℕ} {k : ℕ} {f : Transition} {m u late : ℕ} (seen : Lo
 
   pub next_small : (u + s.u ≤ 2096640) × (late + g ≤ 536739840)
   next_small =
-      let n : length (between k m tr) ≤ 512 = omega (arith, length-between k m tr inside, length-named c l, seen.ready.few) in
-      omega (arith, next_low, next-high, sums-small (all-between k m seen.ready.ranged) n)
+      let n : length (between k m tr) ≤ 512 = omega (arith, length-between k m tr inside, length-along p, p.few) in
+      omega (arith, next_low, next-high, sums-small (all-between k m (fine p)) n)
 
   -- u is spent at m, and so from m on
-  pub none-later : Spent f (u + s.u) → PartnerOf tr k Alone
+  pub none-later : Spent f (u + s.u) → PartnerOf tr k None
   none-later h j x =
       dite (dec_lt j m) (λ a. seen.none_yet j a x) (λ b.
-      spent-none (at tr k) (at tr j) (sum_u tr k m) (sum_u tr k j) (rw (seen.first, next_low) at h) (all-at none seen.ready.ranged j x.inside).soon
+      spent-none (at tr k) (at tr j) (sum_u tr k m) (sum_u tr k j) (rw (seen.first, next_low) at h) (all-at none (fine p) j x.inside).soon
       (sum-grows (λ t. t.u) tr k m j (omega arith)) x.meets.above)
 
   -- what the code asks is the criterion
   asked : Crosses f (said s) (u + s.u) (late + g) ≡ Crosses (at tr k) (at tr m) (sum_u tr k m) (sum_late tr k m)
   asked = rw (seen.first, next_low, next-high, es)
 
-  pub turns-here : Crosses f (said s) (u + s.u) (late + g) → PartnerOf tr k (With m)
+  pub turns-here : Crosses f (said s) (u + s.u) (late + g) → PartnerOf tr k (Some m)
   turns-here b = (
     record { ordered = seen.after; inside = inside; meets = rw asked at b },
     λ j x. dite (dec_lt j m) (λ a. absurd (seen.none_yet j a x)) (λ b. omega arith),
   )
 
-  -- each u is at least 1 and d at most 240: no more than 238 steps are passed
-  next-near : (Spent f (u + s.u) → ⊥) → m - k ≤ 238
-  next-near h =
-      let b : List Transition = between k m tr in
-      let ones : total (λ t. 1) b ≤ sum_u tr k m = all-total (λ t. 1) (λ t. t.u) (λ t x. x.low) (all-between k m seen.ready.ranged) in
-      let late : (at tr k).d ≤ 240 = (all-at none seen.ready.ranged k (omega (arith, inside))).late in
-      let h' : Spent (at tr k) (sum_u tr k m) → ⊥ = rw (seen.first, next_low) at h in
-      omega (arith, total-const 1 b, length-between k m tr inside, unspent (at tr k) (sum_u tr k m) 240 h' late)
-
-  pub looked-more : (Spent f (u + s.u) → ⊥) → (Crosses f (said s) (u + s.u) (late + g) → ⊥)
-      → Looked c l k f (m + 1) (u + s.u) (late + g)
-  looked-more below no-turn =
+  pub looked-more : (Crosses f (said s) (u + s.u) (late + g) → ⊥)
+      → Looked p k f (m + 1) (u + s.u) (late + g)
+  looked-more no-turn =
       let e : m + 1 - suc k ≡ m - k = omega arith in
       record {
-        ready = seen.ready;
         first = seen.first;
         after = omega arith;
-        near = omega (arith, next-near below);
         within = omega arith;
         low = rw e next_low;
         high = rw e next-high;
@@ -151,20 +136,20 @@ module _ {c l : List ℕ} {k : ℕ} {f : Transition} {m u late : ℕ} (seen : Lo
       }
 
 -- the search over k stands at k
-pub passed-by : (tr : List Transition) (k : ℕ) → ((i : ℕ) → i < k → PartnerOf tr i Alone) → Passed tr k
+pub passed-by : (tr : List Transition) (k : ℕ) → ((i : ℕ) → i < k → PartnerOf tr i None) → Passed tr k
 unfolding Passed
 passed-by _ k a i j h c = a i h j c
 
 module _ {tr : List Transition} {k : ℕ} (p : Passed tr k) where
-  pub passed-more : PartnerOf tr k Alone → Passed tr (k + 1)
+  pub passed-more : PartnerOf tr k None → Passed tr (k + 1)
   unfolding Passed
   passed-more a i j h c = ⊎_elim (λ (e : i ≡ k). a j (rw e at c)) (λ (l : i < k). p i j l c) (eq-or-lt_of_le (omega arith))
 
-  pub passed-all : length tr ≤ k → PairOf tr Nowhere
+  pub passed-all : length tr ≤ k → PairOf tr None
   unfolding Passed
   passed-all h i j c = p i j (omega (arith, c.ordered, c.inside)) c
 
-  pub least-here : (m : ℕ) → PartnerOf tr k (With m) → PairOf tr (At k m)
+  pub least-here : (m : ℕ) → PartnerOf tr k (Some m) → PairOf tr (Some (k, m))
   unfolding Passed
   least-here m w = record {
     pair = w.0;

@@ -1,26 +1,26 @@
 -- How far the steps of a block have to look, and that the search may go by it.
+use Rattle.std.specs.Prelude.{None}
 use mathlib.Core.Path.{◌≡◌, refl, sym}
 use mathlib.Core.Logic.{dite}
 use mathlib.Core.Bool.{Bool, true, false}
 use mathlib.Core.List.{List}
-use Prim.Native.Nat.{ℕ, ◌+◌, ◌*◌, ◌/◌, ◌≤◌, ◌<◌}
+use Prim.Native.Nat.{ℕ, ◌*◌, ◌/◌, ◌≤◌, ◌<◌}
 use native.Mathlib.Omega.{arith}
 use native.Mathlib.Decide.{dec_lt}
 use lib.ListN.{length, get_or}
-use Rattle.table.specs.Rows.{named}
-use Rattle.table.proofs.NamedLaws.{length-named}
-use Rattle.words.specs.Left.{Bounded}
+use Rattle.verdict.specs.declared.line.Line.{Line}
+use Rattle.verdict.specs.Line.{along}
+use Rattle.verdict.proofs.LineLaws.{fine, length-along}
 use Rattle.verdict.specs.declared.marks.Mark.{Mark}
+use Rattle.verdict.specs.declared.sight.Outlook.{Outlook}
 use Rattle.verdict.specs.declared.sight.Sight.{Sight}
-use Rattle.verdict.specs.declared.pairs.Partner.TheVariants.{Alone}
 use Rattle.verdict.specs.Pairs.{PartnerOf, Passed}
-use Rattle.verdict.specs.Times.{Numbered, Latest}
 use Rattle.verdict.specs.Calm.{standing, Seen, LookedBack}
 use Rattle.verdict.specs.Marks.{Clear, mark_at, Covers}
 use Rattle.verdict.specs.Sight.{Far}
 use Rattle.verdict.proofs.TimeLaws.{calm-alone, clear-alone}
 use Rattle.verdict.proofs.MarkLaws.{clear-join, clear-under}
-use Rattle.verdict.proofs.PairLaws.{passed-by, passed-more}
+use Rattle.verdict.proofs.PairLaws.{passed-by}
 
 -- no number from block r on is low enough
 pub clear-beyond : {early late lows : List ℕ} {calm : List Bool} {q : Mark} {n r : ℕ} → Seen (standing early) n lows calm 0 → r ≤ 64
@@ -35,64 +35,31 @@ pub far-by : {early late : List ℕ} {calm : List Bool} {i n far : ℕ} {q : Mar
     → Far early late calm n (record { block = i; far = far })
 far-by v w c = record { within = w; clear = λ k h e d. clear-under (v k e d) c }
 
--- the search stands at k, and looks as far as s says
-pub record Searching (c l early late lows : List ℕ) (calm : List Bool) (s : Sight) (k : ℕ) : Type 0 where
-  pub ready : Bounded c l
-  pub numbers : Numbered (named c l) early 0
-  pub times : Latest (named c l) late (length l)
-  pub seen : Seen (standing early) (length l) lows calm 0
-  pub far : Far early late calm (length l) s
-  pub within : k ≤ length l
-  pub passed : Passed (named c l) k
-
 either : {P : Type 0} (b : Bool) → (b ≡ true → P) → (b ≡ false → P) → P
 either true f g = f refl
 either false f g = g refl
 
-module _ {c l early late lows : List ℕ} {calm : List Bool} where
-  -- no block has this number
-  pub searching-first : {k : ℕ} → Bounded c l → Numbered (named c l) early 0 → Latest (named c l) late (length l)
-      → Seen (standing early) (length l) lows calm 0 → k ≤ length l → Passed (named c l) k
-      → Searching c l early late lows calm (record { block = 64; far = 512 }) k
-  searching-first r e t s h p = record {
-    ready = r;
-    numbers = e;
-    times = t;
-    seen = s;
-    far = record { within = omega arith; clear = λ k h e. absurd (omega arith) };
-    within = h;
-    passed = p;
-  }
-
-  module _ {s : Sight} {k : ℕ} (q : Searching c l early late lows calm s k) (h : k < length l)
-      (t : Sight) (far : Far early late calm (length l) t) where
-    pub searching-more : PartnerOf (named c l) k Alone → Searching c l early late lows calm t (k + 1)
-    searching-more a = record {
-      ready = q.ready;
-      numbers = q.numbers;
-      times = q.times;
-      seen = q.seen;
-      far = far;
-      within = omega arith;
-      passed = passed-more q.passed a;
-    }
-
-    -- step k is calm, or nothing up to the sight of its block nor beyond is what it asks for
-    pub ruled_out : (get_or calm k false ≡ false → t.block ≡ k / 8) → (get_or calm k false ≡ false → Clear early late (mark_at early late k) k t.far)
-        → PartnerOf (named c l) k Alone
-    ruled_out b x =
-        let n : length l ≡ length (named c l) = sym (length-named c l) in
-        let few : length (named c l) ≤ 512 = omega (arith, n, q.ready.few) in
-        either (get_or calm k false)
-        (λ e. calm-alone q.numbers q.ready.ranged few (rw n at (q.seen.still k (omega arith) h e)))
-        (λ e. clear-alone q.numbers q.ready.ranged few (rw n at q.times)
-        (rw n at (clear-join (x e) (far.clear k (omega (arith, q.ready.few)) (sym (b e)) e))))
+-- the search stands at k, and looks as far as t says
+module _ (o : Outlook) {k : ℕ} (h : k < length o.line.trace.now) (t : Sight)
+    (far : Far o.early.now o.late.now o.calm.now (length o.line.trace.now) t) where
+  -- step k is calm, or nothing up to the sight of its block nor beyond is what it asks for
+  pub ruled_out : (get_or o.calm.now k false ≡ false → t.block ≡ k / 8)
+      → (get_or o.calm.now k false ≡ false → Clear o.early.now o.late.now (mark_at o.early.now o.late.now k) k t.far)
+      → PartnerOf (along o.line) k None
+  ruled_out b x =
+      let p : Line = o.line in
+      let n : length p.trace.now ≡ length (along p) = sym (length-along p) in
+      let few : length (along p) ≤ 512 = omega (arith, n, p.few) in
+      either (get_or o.calm.now k false)
+      (λ e. calm-alone o.numbers (fine p) few (rw n at (o.seen.still k (omega arith) h e)))
+      (λ e. clear-alone o.numbers (fine p) few (rw n at o.times)
+      (rw n at (clear-join (x e) (far.clear k (omega (arith, p.few)) (sym (b e)) e))))
 
 -- what the look back left, and the first step that is not calm
-module _ {c l early lows : List ℕ} {calm : List Bool} {k : ℕ} (r : Bounded c l) (b : LookedBack (named c l) early lows calm k) where
-  pub looked-seen : Seen (standing early) (length l) lows calm 0
-  looked-seen = rw (length-named c l) at b.seen
+module _ (p : Line) {early lows : List ℕ} {calm : List Bool} {k : ℕ} (b : LookedBack (along p) early lows calm k) where
+  pub looked-seen : Seen (standing early) (length p.trace.now) lows calm 0
+  looked-seen = rw (length-along p) at b.seen
 
-  pub looked-passed : Passed (named c l) k
+  pub looked-passed : Passed (along p) k
   looked-passed =
-      passed-by (named c l) k (λ i h. calm-alone b.numbers r.ranged (omega (arith, length-named c l, r.few)) (b.before i h))
+      passed-by (along p) k (λ i h. calm-alone b.numbers (fine p) (omega (arith, length-along p, p.few)) (b.before i h))

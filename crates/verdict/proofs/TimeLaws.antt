@@ -1,4 +1,5 @@
 -- The latest times of the steps: how they are filled; and that what turns shows in the numbers.
+use Rattle.std.specs.Prelude.{None}
 use mathlib.Core.Path.{◌≡◌, ap, ◌∙◌}
 use mathlib.Core.Logic.{dite}
 use mathlib.Core.List.{List}
@@ -16,10 +17,10 @@ use Rattle.model.specs.Criterion.{Criterion}
 use Rattle.model.proofs.CriterionLaws.{above_from, below-from}
 use Rattle.model.proofs.Lists.{total-append, total-between, all-at, all_take, all_drop}
 use Rattle.table.specs.declared.Row.{Row}
-use Rattle.table.specs.Rows.{row_of, said, named}
-use Rattle.table.proofs.NamedLaws.{length-named, step-named}
-use Rattle.words.specs.Left.{Bounded}
-use Rattle.verdict.specs.declared.pairs.Partner.TheVariants.{Alone}
+use Rattle.table.specs.Rows.{row_of, said}
+use Rattle.verdict.specs.declared.line.Line.{Line}
+use Rattle.verdict.specs.Line.{along}
+use Rattle.verdict.proofs.LineLaws.{fine, length-along, step-along}
 use Rattle.verdict.specs.Pairs.{PartnerOf}
 use Rattle.verdict.specs.Times.{number_of, Numbered, Latest}
 use Rattle.verdict.specs.Calm.{standing, Calm}
@@ -27,47 +28,45 @@ use Rattle.verdict.specs.Marks.{Fits, Clear, mark_at}
 use Rattle.verdict.proofs.PairLaws.{sum_more, sums-small}
 
 -- the loop that fills them stands at step j
-pub record Filling (c l late : List ℕ) (v j : ℕ) : Type 0 where
-  pub ready : Bounded c l
-  pub within : j ≤ length l
-  pub high : v ≡ total late_gap (take j (named c l))
-  pub times : Latest (named c l) late j
+pub record Filling (p : Line) (late : List ℕ) (v j : ℕ) : Type 0 where
+  pub within : j ≤ length p.trace.now
+  pub high : v ≡ total late_gap (take j (along p))
+  pub times : Latest (along p) late j
 
 -- the code looks at step j, whose row is s
-module _ {c l late : List ℕ} {v j : ℕ} (f : Filling c l late v j) (here : j < length l)
-    (s : Row) (read : s ≡ row_of c (get_or l j 0)) (g : ℕ) (gap : g ≡ late_gap (said s)) where
+module _ {p : Line} {late : List ℕ} {v j : ℕ} (f : Filling p late v j) (here : j < length p.trace.now)
+    (s : Row) (read : s ≡ row_of p.rows.now (get_or p.trace.now j 0)) (g : ℕ) (gap : g ≡ late_gap (said s)) where
   abbrev tr : List Transition
-  tr = named c l
+  tr = along p
 
   es : said s ≡ at tr j
-  es = step-named c l j here s read
+  es = step-along p j here s read
 
   inside : j < length tr
-  inside = rw (length-named c l) here
+  inside = rw (length-along p) here
 
   next-high : v + g ≡ total late_gap (take (suc j) tr)
   next-high = omega (arith, gap, ap late_gap es, f.high, sum_more late_gap tr j inside)
 
   pub next_small : (v + g ≤ 536739840) × (s.d ≤ 240)
   next_small =
-      let r : InRange f.ready.states (at tr j) = all-at none f.ready.ranged j inside in
+      let r : InRange 32 (at tr j) = all-at none (fine p) j inside in
       omega (
         arith,
         next-high,
-        sums-small (all_take (suc j) f.ready.ranged) (omega (arith, length-take (suc j) tr, f.ready.few)),
+        sums-small (all_take (suc j) (fine p)) (omega (arith, length-take (suc j) tr, p.few)),
         ap (λ t. t.d) es,
         r.late,
       )
 
-  pub filling-more : (w : ℕ) → w ≡ v + g + s.d * 256 → Filling c l (set late j w) (v + g) (j + 1)
+  pub filling-more : (w : ℕ) → w ≡ v + g + s.d * 256 → Filling p (set late j w) (v + g) (j + 1)
   filling-more w ew = record {
-    ready = f.ready;
     within = omega arith;
     high = rw (add-one j) next-high;
     times = record {
       size = length-set late j w ∙ f.times.size;
       is = λ i h. dite (ℕ_discrete i j)
-          (λ q. rw (q, get_or-set_same late j w 0 (omega (arith, f.times.size, f.ready.few))) (omega (arith, ew, next-high, ap (λ t. t.d) es)))
+          (λ q. rw (q, get_or-set_same late j w 0 (omega (arith, f.times.size, p.few))) (omega (arith, ew, next-high, ap (λ t. t.d) es)))
           (λ d. rw (get_or-set_other late j i w 0 d) (f.times.is i (omega arith)));
     };
   }
@@ -97,7 +96,7 @@ module _ {tr : List Transition} {early : List ℕ} {n : ℕ} (t : Numbered tr ea
         λ e. x.meets.differ (omega arith),
       )
 
-  pub calm-alone : {k : ℕ} → Calm (standing early) (length tr) k → PartnerOf tr k Alone
+  pub calm-alone : {k : ℕ} → Calm (standing early) (length tr) k → PartnerOf tr k None
   calm-alone c j x =
       let f = turning-shows x in
       omega (arith, f.0, c.none j x.ordered x.inside f.1)
@@ -117,5 +116,5 @@ module _ {tr : List Transition} {early : List ℕ} {n : ℕ} (t : Numbered tr ea
       unlike = (turning-shows x).1;
     }
 
-    pub clear-alone : {k : ℕ} → Clear early late (mark_at early late k) k (length tr) → PartnerOf tr k Alone
+    pub clear-alone : {k : ℕ} → Clear early late (mark_at early late k) k (length tr) → PartnerOf tr k None
     clear-alone c j x = c.none j (omega (arith, x.ordered)) x.inside (turning-fits x)

@@ -1,4 +1,5 @@
 pub mod OnTrace
+pub mod Line
 pub mod Pairs
 pub mod Times
 pub mod Calm

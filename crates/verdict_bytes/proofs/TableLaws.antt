@@ -1,24 +1,27 @@
--- The verdict on a table in bytes by the call on values.
-use mathlib.Core.Path.{◌≡◌, sym, ◌∙◌}
+-- What the search leaves, and what one look tells, of a table whose transitions are lent.
+use mathlib.Core.Path.{◌≡◌, sym, ap, subst, ◌∙◌}
 use mathlib.Core.List.{List}
 use Prim.Native.Nat.{ℕ, ◌*◌, ◌≤◌}
 use native.Mathlib.Omega.{arith}
-use lib.ListN.{length, take}
+use lib.ListN.{length}
 use Rattle.model.specs.Answers.{Fields}
 use Rattle.model.specs.Table.{Machine, Valid, at}
 use Rattle.model.specs.Trace.{steps}
 use Rattle.model.specs.Verdict.{Strict}
 use Rattle.model.proofs.Paths.{length-steps}
 use Rattle.model.proofs.StampLaws.{shown-stamps, split-stamps}
-use Rattle.wire.specs.Bytes.{bytes, placed}
-use Rattle.table.specs.Tests.{Passes}
+use Rattle.table.specs.declared.Row.{Row}
+use Rattle.table.specs.declared.Table.{Table}
+use Rattle.table.specs.Rows.{rows, machine_of}
 use Rattle.table.specs.Showing.{Showing, says_none, says_shown}
 use Rattle.table.proofs.ShowingLaws.{values}
 use Rattle.table_verdict.specs.OnTable.{TableShows, split_shown, turning_shown, TableOutcome}
+use Rattle.table_verdict.specs.Plain.{Plain}
+use Rattle.table_verdict.proofs.DecideLaws.{plain-strict}
 use Rattle.table_verdict.proofs.OnlyLaws.{table-pinned}
-use Rattle.places.specs.ShownBytes.{room_tests}
-use Rattle.places.proofs.ShownLaws.{made-showing, shown-bytes}
-use Rattle.verdict_bytes.specs.Tables.{Used, TableOnMachine}
+use Rattle.places.specs.ShownBytes.{Uses}
+use Rattle.places.proofs.ShownLaws.{made-showing}
+use Rattle.verdict_bytes.specs.Tables.{Used}
 
 -- a shown trace is not longer than the room
 few-steps : {m : Machine} {f : Fields} {l s : List ℕ} → TableShows m f l s → f.steps ≤ 270
@@ -48,14 +51,18 @@ module _ (m : Machine) (valid : Valid m) (t₀ s₀ : List ℕ) (long : (length 
       by (says_none e q k) = omega (arith, values e)
       by (says_shown x p) = few-steps x
 
-  -- behind bytes with as much room, the places that an answer uses written back
-  pub on-bytes : (trace₀ stamps₀ : List ℕ) → Passes (room_tests 270 540 trace₀ stamps₀) → {f : Fields} {n k : ℕ} → Used f n k → (u v : List ℕ)
-      → {trace stamps : List ℕ} → trace ≡ placed trace₀ 0 (bytes 2 (take n u)) → stamps ≡ placed stamps₀ 0 (bytes 4 (take k v))
-      → TableOutcome m t₀ s₀ f u v → TableOnMachine m trace₀ stamps₀ f trace stamps
-  on-bytes trace₀ stamps₀ room {f} {n} {k} used u v twos fours o =
-      shown-bytes m valid 270 540 t₀ s₀ long o trace₀ stamps₀ room n k twos fours
-      (λ e. let c : n ≡ 0 = used.steps ∙ (values e).3 in (c, used.one_word (omega (arith, values e)) ∙ c))
-      (λ l s x.
+-- the places that an answer uses are all that it shows
+pub table-uses : (m : Machine) {f : Fields} {n k : ℕ} → Used f n k → Uses (TableShows m) 270 540 f n k
+table-uses m {f} {n} {k} used = record {
+  none = λ e. let c : n ≡ 0 = used.steps ∙ (values e).3 in (c, used.one_word (omega (arith, values e)) ∙ c);
+  all = λ l s x.
       let w = used-stamps used x in
       let c : length l ≡ n = sym (used.steps ∙ (table-pinned m).steps f l s x) in
-      (c, w.0, omega (arith, used.steps, few-steps x), w.1))
+      (c, w.0, omega (arith, used.steps, few-steps x), w.1);
+}
+
+-- one look told that the table is strict
+pub plain-judged : (t : Table) → Valid (machine_of t) → (c : List Row) (n : ℕ) → rows c n ≡ (machine_of t).transitions → Plain c n → Strict (machine_of t)
+plain-judged t v c n e plain =
+    let m : _ ≡ machine_of t = ap (λ ts. record { states = t.states; initial = t.initial; transitions = ts }) e in
+    subst Strict m (plain-strict plain t.states t.initial (subst Valid (sym m) v))

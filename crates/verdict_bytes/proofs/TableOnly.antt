@@ -11,8 +11,7 @@ use Rattle.model.proofs.Lists.{all_append}
 use Rattle.model.proofs.Paths.{trace-known}
 use Rattle.wire.specs.Bytes.{Bytes, wholes}
 use Rattle.table.specs.Showing.{shown_in, Agree, ByTrace}
-use Rattle.table_verdict.specs.declared.OnTable.{OnTable}
-use Rattle.table_verdict.specs.OnTable.{table_fields, TableShows, split_shown, turning_shown}
+use Rattle.table_verdict.specs.OnTable.{Judged, table_fields, TableShows, split_shown, turning_shown}
 use Rattle.table_verdict.specs.Agree.{SameShown}
 use Rattle.table_verdict.proofs.OnlyLaws.{answer-only, table-pinned, table-by}
 use Rattle.places.proofs.ShownLaws.{bytes-is, bytes-agree, bytes-only, bytes-plain-only}
@@ -51,13 +50,13 @@ module _ (trace₀ stamps₀ : List ℕ) (file : List ℕ) (read : Bytes file) w
     fields-plain-only = bytes-plain-only table-pinned table-known 270 540 trace₀ stamps₀ file read f g trace stamps trace' stamps' x y
 
   -- the same of the answers
-  pub table-bytes-only : (r s : OnTable) (trace stamps trace' stamps' : List ℕ) → Out (table_fields r) trace stamps → Out (table_fields s) trace' stamps'
+  pub table-bytes-only : (r s : Judged) (trace stamps trace' stamps' : List ℕ) → Out (table_fields r) trace stamps → Out (table_fields s) trace' stamps'
       → shown_in (table_fields r) (wholes 2 trace) ≡ shown_in (table_fields s) (wholes 2 trace') → (r ≡ s) × (trace ≡ trace') × (stamps ≡ stamps')
   table-bytes-only r s trace stamps trace' stamps' x y h =
       let o = fields-only (table_fields r) (table_fields s) trace stamps trace' stamps' x y h in
       (answer-only r s o.0, o.1, o.2)
 
-  pub table-bytes-plain-only : (r s : OnTable) (trace stamps trace' stamps' : List ℕ) → Out (table_fields r) trace stamps → Out (table_fields s) trace' stamps'
+  pub table-bytes-plain-only : (r s : Judged) (trace stamps trace' stamps' : List ℕ) → Out (table_fields r) trace stamps → Out (table_fields s) trace' stamps'
       → (table_fields r).status < 256 → (r ≡ s) × (trace ≡ trace') × (stamps ≡ stamps')
   table-bytes-plain-only r s trace stamps trace' stamps' x y h =
       let o = fields-plain-only (table_fields r) (table_fields s) trace stamps trace' stamps' x y h in

@@ -1,21 +1,16 @@
 -- What the verdict on a table file answers, and what it leaves in the lent memory.
 use Rattle.std.specs.Prelude.{◌≡◌, List, ℕ, ◌*◌, ◌≤◌}
 use Rattle.model.specs.Answers.{Fields}
-use Rattle.model.specs.Table.{Machine}
 use Rattle.model.specs.Verdict.{Strict}
 use Rattle.table_verdict.specs.OnTable.{TableShows}
-use Rattle.places.specs.ShownBytes.{room_tests, ShownBytes, ShownOnFile}
+use Rattle.places.specs.ShownBytes.{ShownOnFile}
 
--- how many trace places n and stamp places k the answer f uses: "Stamps use one place per step", those of a turning answer's two words two
+-- how many trace places n and stamp places k the answer f uses: the stamps of a word one per step, so those of a turning answer's two words two
 pub record Used (f : Fields) (n k : ℕ) : Type 0 where
   pub steps : n ≡ f.steps
   pub one_word : f.status ≤ 256 → k ≡ n
   pub two_words : f.status ≡ 257 → k ≡ 2 * n
 
--- with a machine that was read: "A table verdict always needs 270 trace places and 540 stamp places", whole ones; then what the verdict on
--- values says
-abbrev pub TableOnMachine : Machine → List ℕ → List ℕ → Fields → List ℕ → List ℕ → Type 0
-TableOnMachine m trace₀ stamps₀ = ShownBytes (room_tests 270 540 trace₀ stamps₀) (Strict m) (TableShows m) trace₀ stamps₀
-
+-- with a machine that was read: 270 trace places and 540 stamp places, whole ones; then what the verdict on values says
 abbrev pub JudgeTableBytesOutcome : List ℕ → List ℕ → List ℕ → Fields → List ℕ → List ℕ → Type 0
 JudgeTableBytesOutcome = ShownOnFile 270 540 Strict TableShows

@@ -1,6 +1,6 @@
 -- Laws of the walk back: every number is explained, and the walk that explains it is written.
 use mathlib.Core.Path.{◌≡◌, refl, sym, ◌∙◌}
-use mathlib.Core.Logic.{⊎_elim}
+use mathlib.Core.Logic.{⊎_elim, ◌↔◌}
 use mathlib.Core.List.{List, [], ◌∷◌, ◌++◌, append_assoc, append-nil}
 use Prim.Native.Nat.{ℕ, zero, suc, ◌+◌, ◌-◌, ◌≤◌, ◌<◌}
 use native.Mathlib.Numerals.{add-one}
@@ -19,6 +19,9 @@ use Rattle.criterion.specs.declared.Goal.{Goal}
 use Rattle.criterion.specs.declared.Goal.TheVariants.{Turns, Overtakes}
 use Rattle.criterion.specs.Goals.{Meets}
 use Rattle.criterion.proofs.GoalLaws.{goal-sought}
+use Rattle.table.specs.Rows.{transitions}
+use Rattle.table.specs.declared.fit.Fit.{Fit}
+use Rattle.table.proofs.RowLaws.{length-rows}
 use Rattle.walks.specs.Walks.{Seen, Walk, EndsIn, ShownWalk}
 use Rattle.walks.specs.declared.soon.Soonest.{Soonest}
 use Rattle.walks.specs.Soon.{Soon, RowsFor}
@@ -48,11 +51,13 @@ module _ {ts : List Transition} {best : List ℕ} {e a j : ℕ} {t : Transition}
   pub not_some : cell best (a - t.u) t.from ≡ 0 → Explains ts best e a j → ⊥
   not_some h p = let q = rw (left_is p, z.here) at p.some in omega arith
 
-  pub not-sum : (cell best (a - t.u) t.from + late_gap t ≡ cell best a e → ⊥) → Explains ts best e a j → ⊥
-  not-sum h p = h (rw (left_is p, z.here) at p.sum)
-
-  pub is_sum : t.to ≡ e → t.u ≤ a → 1 ≤ cell best (a - t.u) t.from → cell best (a - t.u) t.from + late_gap t ≡ cell best a e → Explains ts best e a j
+  is_sum : t.to ≡ e → t.u ≤ a → 1 ≤ cell best (a - t.u) t.from → cell best (a - t.u) t.from + late_gap t ≡ cell best a e → Explains ts best e a j
   is_sum = rw (← z.here) (λ h l s q. record { to = h; left = a - (at ts j).u; whole = omega arith; some = s; sum = q })
+
+  -- where there is a number before it the sum tells
+  -- where there is a number before it the sum tells
+  pub sum-law : t.to ≡ e → t.u ≤ a → 1 ≤ cell best (a - t.u) t.from → (cell best (a - t.u) t.from + late_gap t ≡ cell best a e) ↔ Explains ts best e a j
+  sum-law h l s = (is_sum h l s, λ p. rw (left_is p, z.here) at p.sum)
 
 -- walks of the table ts from s
 module _ {ts : List Transition} {s : ℕ} {best : List ℕ} where
@@ -207,6 +212,10 @@ module _ {ts : List Transition} {s : ℕ} {best : List ℕ} where
 
     pub back_on : {i : ℕ} → i < length ts → Explains ts best t.from (sum - t.u) i → Back ts s best i (sum - t.u)
     back_on {i} h x = record { known = h; left = x.left; whole = x.whole; stands = stands_on back-stands i h x }
+
+-- the transition where the walk back stands is a row of the slice
+pub back-in : (f : Fit) {s : ℕ} {best : List ℕ} {j sum : ℕ} → Back (transitions f.rows.now) s best j sum → j < length f.rows.now
+back-in f p = omega (arith, p.known, length-rows f.rows.now (length f.rows.now))
 
 -- the rows that are made for a transition, one more than it asks for
 pub show-ready : {goal : Goal} {ts : List Transition} {k n rows : ℕ} {best : List ℕ} {first : Transition} {soon : Soonest} → Seen ts k first

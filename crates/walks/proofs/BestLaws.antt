@@ -12,13 +12,14 @@ use Rattle.model.specs.Lists.{All}
 use Rattle.model.specs.Table.{Transition, InRange, at, none}
 use Rattle.model.specs.Shown.{late_gap}
 use Rattle.model.proofs.Lists.{all-at}
+use Rattle.table.specs.declared.Row.{Row}
 use Rattle.table.specs.Rows.{rows}
 use Rattle.table.specs.Fit.{Sound}
 use Rattle.walks.specs.Walks.{Seen, Walk}
-use Rattle.walks.specs.Best.{cell, Exact, Filled, Roomy, Making, Copied, Zeros, First}
+use Rattle.walks.specs.Best.{cell, Exact, Filled, Roomy, Making, Copied, First}
 use Rattle.walks.proofs.WalkLaws.{late-top, Last, walk_none, walk-wide, walk-on, walk-last, walk-small, walk-zero}
 
-pub roomy : {c : List ℕ} {n s : ℕ} {best : List ℕ} → Sound c n → s < 32 → length best ≡ 7648 → Roomy (rows c n) s best
+pub roomy : {c : List Row} {n s : ℕ} {best : List ℕ} → Sound c n → s < 32 → length best ≡ 7648 → Roomy (rows c n) s best
 roomy z h l = record { fine = z.ranged; start = h; size = l }
 
 -- a store in row a at state t
@@ -42,9 +43,6 @@ module _ (best : List ℕ) (a t y : ℕ) (room : a * 32 + t < length best) where
 module _ {ts : List Transition} {s : ℕ} where
   pub filled-less : {best : List ℕ} {n m : ℕ} → m ≤ n → Filled ts s best n → Filled ts s best m
   filled-less h f = record { row = λ a l. f.row a (omega arith) }
-
-  pub filled-to : {best : List ℕ} {n m : ℕ} → n ≡ m → Filled ts s best n → Filled ts s best m
-  filled-to q f = rw q at f
 
   -- a row's law looks at its own numbers alone
   exact_same : {old best : List ℕ} {a : ℕ} → ((e : ℕ) → e < 32 → cell best a e ≡ cell old a e) → Exact ts s old a → Exact ts s best a
@@ -246,40 +244,3 @@ module _ {ts : List Transition} {s : ℕ} where
               let q : a ≡ 0 = omega arith in
               rw q (record { real = λ e b l x. first-real e b l (sym (at_zero e) ∙ x); most = λ e b l w. first-most e b w });
         }
-
--- copying a row
-pub copied_none : {best : List ℕ} {p : ℕ} → Copied best best p 0
-copied_none = record { same = λ k h. refl; here = λ e h. absurd (omega arith); size = refl }
-
-pub copied_more : {old best : List ℕ} {p i : ℕ} → p * 32 + 32 + i < length best → i < 32 → Copied old best p i
-    → Copied old (set best (p * 32 + 32 + i) (get_or best (p * 32 + i) 0)) p (i + 1)
-copied_more {old} {best} {p} {i} room h d =
-    let x : ℕ = get_or best (p * 32 + i) 0 in
-    record {
-      same = λ k l. get_or-set_other best (p * 32 + 32 + i) k x 0 (λ q. omega arith) ∙ d.same k l;
-      here = λ e l. ⊎_elim
-          (λ (q : e ≡ i). rw q (get_or-set_same best (p * 32 + 32 + i) x 0 room ∙ d.same (p * 32 + i) (omega arith)))
-          (λ (q : e < i). get_or-set_other best (p * 32 + 32 + i) (p * 32 + 32 + e) x 0 (λ z. omega arith) ∙ d.here e q)
-          (eq-or-lt_of_le (omega arith));
-      size = simp length-set d.size;
-    }
-
-pub copied_at : {old best : List ℕ} {p i : ℕ} → i ≡ 32 → Copied old best p i → Copied old best p 32
-copied_at q d = rw q at d
-
--- clearing the first row
-pub zeros-none : {best : List ℕ} → Zeros best 0
-zeros-none = record { zero = λ e h. absurd (omega arith) }
-
-pub zeros-more : {best : List ℕ} {i : ℕ} → i < length best → Zeros best i → Zeros (set best i 0) (i + 1)
-zeros-more {best} {i} room z =
-    record {
-      zero = λ e h. ⊎_elim
-          (λ (q : e ≡ i). rw q (get_or-set_same best i 0 0 room))
-          (λ (q : e < i). get_or-set_other best i e 0 0 (λ w. omega arith) ∙ z.zero e q)
-          (eq-or-lt_of_le (omega arith));
-    }
-
-pub first-set : {best : List ℕ} {i s : ℕ} → length best ≡ 7648 → s < 32 → 32 ≤ i → Zeros best i → First (set best s 1) s
-first-set {best} {i} {s} h k l z =
-    record { size = simp length-set h; one = get_or-set_same best s 1 0 (omega arith); others = λ e h o. get_or-set_other best s e 1 0 o ∙ z.zero e (omega arith) }

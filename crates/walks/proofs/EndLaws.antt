@@ -16,8 +16,10 @@ use Rattle.model.proofs.CriterionLaws.{above-less, slack-fits, slack-most, slack
 use Rattle.criterion.specs.declared.Goal.{Goal}
 use Rattle.criterion.specs.Goals.{Meets, Possible}
 use Rattle.criterion.proofs.GoalLaws.{goal-sought, met-possible}
-use Rattle.walks.specs.declared.Found.{Found}
-use Rattle.walks.specs.declared.Found.TheVariants.{At, Nothing}
+use Rattle.std.specs.Prelude.{Option, Some, None}
+use Rattle.table.specs.Rows.{transitions}
+use Rattle.table.specs.declared.fit.Fit.{Fit}
+use Rattle.table.proofs.RowLaws.{length-rows}
 use Rattle.walks.specs.Walks.{Seen, Walk, EndsIn, Least, Among}
 use Rattle.walks.specs.Best.{cell, Closes, ReadyFor}
 use Rattle.walks.proofs.WalkLaws.{sum-last, trace-last}
@@ -58,13 +60,17 @@ module _ (goal : Goal) where
     pub end-possible : Possible goal (at ts k) (at ts m)
     end-possible = met-possible goal (at ts k) (at ts m) _ _ (omega (arith, sum-last ts (λ t. t.u) t.rest m)) t.meets
 
+  -- and so a row of the slice
+  pub end-in : (f : Fit) {k m : ℕ} → EndsIn goal (transitions f.rows.now) k m → m < length f.rows.now
+  end-in f t = omega (arith, end_known t, length-rows f.rows.now (length f.rows.now))
+
   -- the test of an end, with the late gap that the code has read
   module _ {k m : Transition} {x g : ℕ} (e : g ≡ late_gap m) where
-    pub not-closed : (Meets goal k m m.u (x - 1 + g) → ⊥) → Closes goal k m x → ⊥
-    not-closed n p = let q : p.late ≡ x - 1 = omega (arith, p.some) in n (rw e (rw q at p.meets))
-
-    pub is-closed : (x ≡ 0 → ⊥) → Meets goal k m m.u (x - 1 + g) → Closes goal k m x
-    is-closed n p = record { late = x - 1; some = omega arith; meets = rw e at p }
+    pub closed-law : (x ≡ 0 → ⊥) → Meets goal k m m.u (x - 1 + g) ↔ Closes goal k m x
+    closed-law n = (
+      λ p. record { late = x - 1; some = omega arith; meets = rw e at p },
+      λ p. let q : p.late ≡ x - 1 = omega (arith, p.some) in rw e (rw q at p.meets),
+    )
 
   -- the table of numbers and the walks say the same of an end
   module _ {ts : List Transition} (k : ℕ) {best : List ℕ} (z : ReadyFor goal ts k best) (m : ℕ) where
@@ -127,13 +133,10 @@ module _ {P : ℕ → Type 0} where
 
 -- a loop that looks for some transition of which P holds
 module _ {P : ℕ → Type 0} {l n : ℕ} (len : l ≡ n) where
-  pub among-at : {k : ℕ} → k < n → P k → Among P l
-  among-at {k} h p = record { x = k; known = omega arith; holds = p }
-
   pub among_none : {i : ℕ} → n ≤ i → ((x : ℕ) → x < i → P x → ⊥) → Among P l → ⊥
   among_none h b p = b p.x (omega (arith, p.known)) p.holds
 
 -- nothing was found
-pub least-not : (P : ℕ → Type 0) (r : Found) → Least P r → r ≡ Nothing → (x : ℕ) → P x → ⊥
-least-not P (At k) l e x p = cc
-least-not P Nothing l e x p = l x p
+pub least-not : (P : ℕ → Type 0) (r : Option ℕ) → Least P r → r ≡ None → (x : ℕ) → P x → ⊥
+least-not P (Some k) l e x p = cc
+least-not P None l e x p = l x p

@@ -8,27 +8,27 @@ use native.Mathlib.Omega.{arith}
 use lib.ListN.{length}
 use Rattle.model.specs.Table.{Transition}
 use Rattle.criterion.specs.declared.Goal.{Goal}
+use Rattle.table.specs.declared.Row.{Row}
 use Rattle.table.specs.Rows.{rows}
 use Rattle.table.specs.Fit.{Sound}
-use Rattle.walks.specs.declared.Found.{Found}
-use Rattle.walks.specs.declared.Found.TheVariants.{At, Nothing}
+use Rattle.std.specs.Prelude.{Option, Some, None}
 use Rattle.walks.specs.Walks.{Least, ShownLeast, ShownIfAny, WalkOutcome, WalksAgree}
 
 -- two least numbers are one
-pub least-only : (P : ℕ → Type 0) (r q : Found) → Least P r → Least P q → r ≡ q
-least-only P (At k) (At j) a b =
-    dite (dec_lt k j) (λ h. absurd (b.1 k h a.0)) (λ h. dite (dec_lt j k) (λ g. absurd (a.1 j g b.0)) (λ g. ap At (omega arith)))
-least-only P (At k) Nothing a b = absurd (b k a.0)
-least-only P Nothing (At j) a b = absurd (a j b.0)
-least-only P Nothing Nothing a b = refl
+pub least-only : (P : ℕ → Type 0) (r q : Option ℕ) → Least P r → Least P q → r ≡ q
+least-only P (Some k) (Some j) a b =
+    dite (dec_lt k j) (λ h. absurd (b.1 k h a.0)) (λ h. dite (dec_lt j k) (λ g. absurd (a.1 j g b.0)) (λ g. ap Some (omega arith)))
+least-only P (Some k) None a b = absurd (b k a.0)
+least-only P None (Some j) a b = absurd (a j b.0)
+least-only P None None a b = refl
 
 -- two walks that are shown have one end
 pub walks-agree : {goal : Goal} {ts : List Transition} {k p : ℕ} {old a b : List ℕ} {x y : ℕ} → ShownLeast goal ts k p old a x → ShownLeast goal ts k p old b y
     → WalksAgree goal ts k p old a x b y
 walks-agree s t =
-    let e = least-only _ (At s.m) (At t.m) (s.walk.to, s.least) (t.walk.to, t.least) in inl (s, t, (cc))
+    let e = least-only _ (Some s.m) (Some t.m) (s.walk.to, s.least) (t.walk.to, t.least) in inl (s, t, (cc))
 
-module _ (goal : Goal) {c : List ℕ} {n k p : ℕ} {old : List ℕ} where
+module _ (goal : Goal) {c : List Row} {n k p : ℕ} {old : List ℕ} where
   pub walk-outcome : {out : List ℕ} {x : ℕ} → Sound c n → k < n → p + 239 ≤ length old → ShownIfAny goal (rows c n) k p old out x → WalkOutcome goal c n k p old out x
   walk-outcome z h r =
       ⊎_elim (λ s. inl (record { sound = z; known = h; room = r; after = record { m = s.m; to = s.walk.to } }, s))

@@ -9,7 +9,7 @@ use borrow.Author.Count.{below_more}
 use Rattle.model.specs.Table.{Transition, at}
 use Rattle.model.specs.Order.{Differ}
 use Rattle.model.specs.Criterion.{slack}
-use Rattle.model.proofs.CriterionLaws.{slack-none, slack-under}
+use Rattle.model.proofs.CriterionLaws.{slack-under}
 use Rattle.table.specs.declared.Row.{Row}
 use Rattle.table.specs.Rows.{said}
 use Rattle.criterion.specs.declared.Goal.{Goal}
@@ -84,16 +84,10 @@ module _ (k : Row) (s : Soonest) where
   asks-every = record { least = λ t b p. b.first; above = λ x a b. a }
 
   module _ {goal : Goal} {least : ℕ} (q : Asks goal (said k) s least) where
-    pub rows_none : k.d ≤ least → RowsFor goal (said k) s 0
-    rows_none h = record {
-      covers = λ t b p. absurd (slack-none (said k) t p.above (omega (arith, q.least t b p)));
-      most = λ x a b c. omega arith;
-    }
-
-    pub rows-some : least < k.d → RowsFor goal (said k) s (k.d - least)
-    rows-some h = record {
-      covers = λ t b p. slack-under (said k) t (k.d - least) p.above (omega (arith, q.least t b p));
-      most = λ x a b c. omega (arith, q.above x a b);
+    pub rows-after : {r : ℕ} → r ≡ k.d - least → RowsFor goal (said k) s r
+    rows-after e = record {
+      covers = λ t b p. slack-under (said k) t _ p.above (omega (arith, q.least t b p, e));
+      most = λ x a b c. omega (arith, q.above x a b, e);
     }
 
 -- the rows that a transition of the table asks for

@@ -1,5 +1,5 @@
 -- Laws of walks and of their sums.
-use mathlib.Core.Path.{◌≡◌, refl, sym, ap, ◌∙◌}
+use mathlib.Core.Path.{◌≡◌, refl, sym, ap}
 use mathlib.Core.Logic.{◌⊎◌, inl, inr, ⊎_elim}
 use mathlib.Core.List.{List, [], ◌∷◌, ◌++◌}
 use Prim.Native.Nat.{ℕ, ◌+◌, ◌*◌, ◌-◌, ◌≤◌, ◌<◌}
@@ -12,21 +12,18 @@ use Rattle.model.specs.Span.{span}
 use Rattle.model.specs.Shown.{late_gap}
 use Rattle.model.proofs.Lists.{total-append, total-scale, all-at, all-total}
 use Rattle.model.proofs.Paths.{trace-append, trace-split, trace-ranged, steps-last}
-use Rattle.table.specs.declared.Row.{Row}
-use Rattle.table.specs.Rows.{rows, row_of, said}
-use Rattle.table.specs.Fit.{Sound}
-use Rattle.table.proofs.RowLaws.{length-rows, row-known}
+use Rattle.table.specs.Rows.{transitions, row_at, said}
+use Rattle.table.specs.declared.fit.Fit.{Fit}
+use Rattle.table.proofs.RowLaws.{length-rows, at_rows}
+use Rattle.table.proofs.FitLaws.{fit-sound}
 use Rattle.walks.specs.Walks.{Seen, Walk}
 
--- a row that is read of at most 256
-pub read-said : (c : List ℕ) (n i : ℕ) → n ≤ 256 → i < n → {r : Row} → r ≡ row_of c i → at (rows c n) i ≡ said r
-read-said c n i few h e = sym (ap said e ∙ row-known c n i few h)
-
-pub seen : {c : List ℕ} {n : ℕ} → Sound c n → (i : ℕ) → i < n → (r : Row) → r ≡ row_of c i → Seen (rows c n) i (said r)
-seen {c} {n} z i h r e =
-    let k : i < length (rows c n) = omega (arith, length-rows c n) in
-    let q : at (rows c n) i ≡ said r = read-said c n i z.few h e in
-    record { known = k; here = q; fine = rw q at (all-at none z.ranged i k) }
+-- a row of a slice that fits
+pub seen : (f : Fit) (i : ℕ) → i < length f.rows.now → Seen (transitions f.rows.now) i (said (row_at f.rows.now i))
+seen f i h =
+    let k : i < length (transitions f.rows.now) = omega (arith, length-rows f.rows.now (length f.rows.now)) in
+    let q = at_rows f.rows.now (length f.rows.now) i h in
+    record { known = k; here = q; fine = rw q at (all-at none (fit-sound f).ranged i k) }
 
 -- with a lower bound of 1 a late gap is small beside it
 late-small : {n : ℕ} (t : Transition) → InRange n t → late_gap t ≤ t.u * 1048320

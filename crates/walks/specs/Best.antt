@@ -50,10 +50,6 @@ pub record Copied (old best : List ℕ) (p i : ℕ) : Type 0 where
   pub here : (e : ℕ) → e < i → get_or best (p * 32 + 32 + e) 0 ≡ get_or old (p * 32 + e) 0
   pub size : length best ≡ length old
 
--- the first i numbers are 0
-pub record Zeros (best : List ℕ) (i : ℕ) : Type 0 where
-  pub zero : (e : ℕ) → e < i → get_or best e 0 ≡ 0
-
 -- row 0 has s alone
 pub record First (best : List ℕ) (s : ℕ) : Type 0 where
   pub size : length best ≡ 7648

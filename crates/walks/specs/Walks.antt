@@ -1,5 +1,5 @@
 -- Walks of a table with their sums, the transitions that start a pair of what is asked (`goal`), and what is answered and written of them.
-use Rattle.std.specs.Prelude.{◌≡◌, ◌⊎◌, List, [], ◌∷◌, ◌++◌, ℕ, ◌+◌, ◌≤◌, ◌<◌, length, get_or, take, drop}
+use Rattle.std.specs.Prelude.{◌≡◌, ◌⊎◌, Option, Some, None, List, [], ◌∷◌, ◌++◌, ℕ, ◌+◌, ◌≤◌, ◌<◌, length, get_or, take, drop}
 use Rattle.model.specs.Table.{Transition, InRange, at}
 use Rattle.model.specs.Trace.{Trace, steps}
 use Rattle.model.specs.Span.{span, late_sum}
@@ -8,8 +8,7 @@ use Rattle.criterion.specs.declared.Goal.{Goal}
 use Rattle.criterion.specs.Goals.{Meets}
 use Rattle.table.specs.Rows.{rows}
 use Rattle.table.specs.Fit.{Sound}
-use Rattle.walks.specs.declared.Found.{Found}
-use Rattle.walks.specs.declared.Found.TheVariants.{At, Nothing}
+use Rattle.table.specs.declared.Row.{Row}
 
 -- t is transition i of the table
 pub record Seen (ts : List Transition) (i : ℕ) (t : Transition) : Type 0 where
@@ -49,12 +48,12 @@ abbrev pub Starts : Goal → List Transition → List ℕ → ℕ → Type 0
 Starts goal ts dist k = StartsAt goal ts dist (at ts k).to k
 
 -- the least number of which P holds, if there is one
-abbrev pub Least : (ℕ → Type 0) → Found → Type 0
-Least P (At k) = P k × ((x : ℕ) → x < k → P x → ⊥)
-Least P Nothing = (x : ℕ) → P x → ⊥
+abbrev pub Least : (ℕ → Type 0) → Option ℕ → Type 0
+Least P (Some k) = P k × ((x : ℕ) → x < k → P x → ⊥)
+Least P None = (x : ℕ) → P x → ⊥
 
 -- the answer of `lowest`: in cells within their limits the least start, in others none
-abbrev pub LowestStart : Goal → List ℕ → ℕ → List ℕ → Found → Type 0
+abbrev pub LowestStart : Goal → List Row → ℕ → List ℕ → Option ℕ → Type 0
 LowestStart goal cells count dist r = Least (λ k. Sound cells count × Starts goal (rows cells count) dist k) r
 
 -- some number below n of which P holds
@@ -81,19 +80,19 @@ abbrev pub ShownIfAny : Goal → List Transition → ℕ → ℕ → List ℕ �
 ShownIfAny goal ts k p old out n = ShownLeast goal ts k p old out n ⊎ ((Followed goal ts k → ⊥) × (n ≡ 0) × (out ≡ old))
 
 -- a walk from k can be shown: cells within their limits, k one of their transitions that starts a pair, room from place p on
-pub record CanShow (goal : Goal) (cells : List ℕ) (count k p : ℕ) (old : List ℕ) : Type 0 where
+pub record CanShow (goal : Goal) (cells : List Row) (count k p : ℕ) (old : List ℕ) : Type 0 where
   pub sound : Sound cells count
   pub known : k < count
   pub room : p + 239 ≤ length old
   pub after : Followed goal (rows cells count) k
 
 -- what `write_walk` leaves: such a walk, or nothing where none can be shown
-abbrev pub WalkOutcome : Goal → List ℕ → ℕ → ℕ → ℕ → List ℕ → List ℕ → ℕ → Type 0
+abbrev pub WalkOutcome : Goal → List Row → ℕ → ℕ → ℕ → List ℕ → List ℕ → ℕ → Type 0
 WalkOutcome goal cells count k p old out n =
     (CanShow goal cells count k p old × ShownLeast goal (rows cells count) k p old out n)
     ⊎ ((CanShow goal cells count k p old → ⊥) × (n ≡ 0) × (out ≡ old))
 
--- two outcomes for one input: both show a walk, with one end, or both write nothing. Which walk is free (01: "Which such trace is free")
+-- two outcomes for one input: both show a walk, with one end, or both write nothing. Which walk is shown is free
 abbrev pub WalksAgree : Goal → List Transition → ℕ → ℕ → List ℕ → List ℕ → ℕ → List ℕ → ℕ → Type 0
 WalksAgree goal ts k p old a x b y =
     ((s : ShownLeast goal ts k p old a x) × (t : ShownLeast goal ts k p old b y) × (s.m ≡ t.m))

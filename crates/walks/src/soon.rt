@@ -1,87 +1,63 @@
 // The ends that are due soonest after the step before them: how many rows a search needs, found in one pass.
-ghost use Rattle.std.specs.Prelude.{◌<◌};
-ghost use Rattle.table.specs.Fit.{Sound};
-ghost use Rattle.table.specs.Rows.{rows, said};
+ghost use Rattle.std.specs.Prelude.{length};
+ghost use Rattle.table.specs.Rows.{said, transitions};
 ghost use Rattle.walks.specs.Soon.{Sooner, Soon, Asks, RowsFor};
 
-use crate::sums::row;
 use criterion::Goal;
-use table::{Cells, Row};
+use table::fit::Fit;
+use table::{BLANK, Row};
 
 // The least u + d of all ends, one that has it, and the least of those that can be told apart from that one.
 #[derive(Clone, Copy)]
 pub(crate) struct Soonest {
-    first: u32,
+    first: usize,
     end: Row,
-    second: u32,
+    second: usize,
 }
 
 // One more end.
+// No min: the case decides which letter is kept.
 fn sooner(s: Soonest, m: Row) -> Soonest
     ensures { Sooner s (said m) result }
 {
-    let end = s.end;
-    let own = m.u as u32 + m.d as u32;
-    let told = criterion::differ(m, end);
+    let own = usize::from(m.u) + usize::from(m.d);
+    let told = criterion::differ(m, s.end);
     if own < s.first {
-        if told {
-            return Soonest {
-                first: own,
-                end: m,
-                second: s.first,
-            };
-        }
         return Soonest {
             first: own,
             end: m,
-            second: s.second,
+            second: if told { s.first } else { s.second },
         };
     }
-    if !told {
-        return s;
-    }
-    if own < s.second {
-        return Soonest {
-            first: s.first,
-            end: end,
-            second: own,
-        };
+    if told && own < s.second {
+        return Soonest { second: own, ..s };
     }
     s
 }
 
-// All ends of a sound table.
-pub(crate) fn all_ends(cells: &Cells, count: usize) -> Soonest
-    requires { Sound cells.now count }
-    ensures { Soon (rows cells.now count) count result }
+// All ends.
+pub(crate) fn all_ends(fit: Fit<'_>) -> Soonest
+    ensures { Soon (transitions fit.entry.rows.now) (length fit.entry.rows.now) result }
 {
     // No delay is above 240: where no end is sooner none is asked for.
     let mut s = Soonest {
         first: 240,
-        end: table::row_of(cells, 0),
+        end: BLANK,
         second: 240,
     };
-    let mut i: usize = 0;
-    while i < count {
-        s = sooner(s, row(cells, count, i));
-        i += 1;
+    for &r in fit.rows {
+        s = sooner(s, r);
     }
     s
 }
 
 // The least u + d of an end that can be asked for after k.
-fn least_for(goal: Goal, k: Row, s: Soonest) -> u32
+fn least_for(goal: Goal, k: Row, s: Soonest) -> usize
     ensures { Asks goal (said k) s result }
 {
-    let end = s.end;
     match goal {
-        Goal::Turns => {
-            if criterion::differ(k, end) {
-                return s.first;
-            }
-            s.second
-        }
-        Goal::Overtakes => s.first,
+        Goal::Turns if !criterion::differ(k, s.end) => s.second,
+        _ => s.first,
     }
 }
 
@@ -89,10 +65,5 @@ fn least_for(goal: Goal, k: Row, s: Soonest) -> u32
 pub(crate) fn rows_for(goal: Goal, k: Row, s: Soonest) -> usize
     ensures { RowsFor goal (said k) s result }
 {
-    let least = least_for(goal, k, s);
-    let d = k.d as u32;
-    if d <= least {
-        return 0;
-    }
-    (d - least) as usize
+    usize::from(k.d).saturating_sub(least_for(goal, k, s))
 }

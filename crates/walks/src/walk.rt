@@ -2,17 +2,15 @@
 ghost use Rattle.std.specs.Prelude.{◌≡◌, ◌+◌, ◌<◌, ◌≤◌, length, drop};
 ghost use Rattle.std.proofs.Math.Seq.{paste};
 ghost use Rattle.model.specs.Answers.{Tells};
-ghost use Rattle.table.specs.Fit.{Sound};
-ghost use Rattle.table.specs.Rows.{rows};
+ghost use Rattle.table.specs.Rows.{transitions};
 ghost use Rattle.walks.specs.Walks.{EndsIn, ShownWalk, ShownIfAny};
 ghost use Rattle.walks.specs.Best.{cell, asked, ReadyFor, Explains, Explained, LeastRow, Back, EndSum, Went};
 
-use crate::Found;
 use crate::search::ends;
 use crate::soon::{all_ends, rows_for};
-use crate::sums::{Sums, fill, number, row};
+use crate::sums::{Sums, fill, number};
 use criterion::Goal;
-use table::Cells;
+use table::fit::Fit;
 
 // Where a walk is walked back: k and at most 238 steps.
 type Walk = [u16; 239];
@@ -21,6 +19,7 @@ fn low(x: usize) -> u16
     requires { x < 65536 }
     ensures { result ≡ x }
 {
+    // Nothing is cut off: that is proved, and TryFrom would ask what to do if it were.
     x as u16
 }
 
@@ -35,84 +34,71 @@ fn enough_for(goal: Goal, x: u32) -> u32
 }
 
 // The least row whose number at state e is at least `enough`.
-fn least_row(best: &Sums, e: usize, top: usize, enough: u32) -> usize
+fn least_row(best: &Sums, e: u16, top: usize, enough: u32) -> usize
     requires { (length best.now ≡ 7648) × (top ≤ 238) × (e < 32) × (enough ≤ cell best.now top e) }
     ensures { LeastRow best.now e top enough result }
 {
-    let mut a: usize = 0;
-    while a < top {
+    for a in 0..top {
         if enough <= number(best, a, e) {
             return a;
         }
-        a += 1;
     }
-    a
+    top
 }
 
 // Whether transition j is the last step of a walk that gives the number in row a at e.
-fn explains(cells: &Cells, count: usize, best: &Sums, e: usize, a: usize, j: usize) -> bool
-    requires { Sound cells.now count × (j < count) × (length best.now ≡ 7648) × (a ≤ 238) × (e < 32) }
-    ensures { Tells result (Explains (rows cells.now count) best.now e a j) }
+fn explains(fit: Fit<'_>, best: &Sums, e: u16, a: usize, j: usize) -> bool
+    requires { (j < length fit.rows.now) × (length best.now ≡ 7648) × (a ≤ 238) × (e < 32) }
+    ensures { Tells result (Explains (transitions fit.entry.rows.now) best.now e a j) }
 {
-    let r = row(cells, count, j);
-    if r.to as usize != e {
+    let r = fit.rows[j];
+    let u = usize::from(r.u);
+    // The number is looked up only where the first test lets it.
+    if r.to != e || a < u {
         return false;
     }
-    let u = r.u as usize;
-    if a < u {
-        return false;
-    }
-    let x = number(best, a - u, r.from as usize);
-    if x == 0 {
-        return false;
-    }
-    let y = number(best, a, e);
-    if x as usize + words::late_gap(r) as usize != y as usize {
-        return false;
-    }
-    true
+    let x = number(best, a - u, r.from);
+    x != 0 && u64::from(x) + u64::from(words::late_gap(r)) == u64::from(number(best, a, e))
 }
 
 // A transition that explains the number in row a at e.
-fn explain(cells: &Cells, count: usize, best: &Sums, e: usize, a: usize) -> usize
-    requires { Sound cells.now count × (length best.now ≡ 7648) × (a ≤ 238) × (e < 32) × Explained (rows cells.now count) best.now e a }
-    ensures { (result < count) × Explains (rows cells.now count) best.now e a result }
+fn explain(fit: Fit<'_>, best: &Sums, e: u16, a: usize) -> usize
+    requires { (length best.now ≡ 7648) × (a ≤ 238) × (e < 32) × Explained (transitions fit.rows.now) best.now e a }
+    ensures { (result < length fit.entry.rows.now) × Explains (transitions fit.entry.rows.now) best.now e a result }
 {
-    let mut j: usize = 0;
-    while j < count {
-        if explains(cells, count, best, e, a, j) {
+    // A for: of a closure that captures a struct the goals stay open.
+    for j in 0..fit.rows.len() {
+        if explains(fit, best, e, a, j) {
             return j;
         }
-        j += 1;
     }
-    0
+    unreachable!()
 }
 
 // The walk from s that ends with transition j, written right before place `to`: `sum` is the whole sum of lower bounds, j's own with it.
 // Each call writes its transition and goes on with the walk before it, which has a smaller sum. The call is the last thing that is
 // done, so that no level of it needs stack. Answers the place of the first step: the one right after k.
 fn walk_back(
-    cells: &Cells,
-    count: usize,
-    s: usize,
+    fit: Fit<'_>,
+    s: u16,
     best: &Sums,
     j: usize,
     sum: usize,
     back: &mut Walk,
     to: usize,
 ) -> usize
-    requires { Sound cells.now count × Back (rows cells.now count) s best.now j sum × (sum ≤ to) × (to ≤ 239) × (length back.old ≡ 239) }
-    ensures { Went (rows cells.now count) s best.now j sum to back.old back.new result }
+    requires { Back (transitions fit.rows.now) s best.now j sum × (sum ≤ to) × (to ≤ 239) × (length back.old ≡ 239) }
+    ensures { Went (transitions fit.entry.rows.now) s best.now j sum to back.old back.new result }
 {
-    let r = row(cells, count, j);
-    let left = sum - r.u as usize;
+    let r = fit.rows[j];
+    let left = sum - usize::from(r.u);
     let p = to - 1;
     back[p] = low(j);
     if left == 0 {
         return p;
     }
-    let i = explain(cells, count, best, r.from as usize, left);
-    walk_back(cells, count, s, best, i, left, back, p)
+    let i = explain(fit, best, r.from, left);
+    walk_back(fit, s, best, i, left, back, p)
 }
 
 // What stands in `back` from place p on, written from place `from` on; answers the number of steps.
@@ -121,76 +107,70 @@ fn put_walk(back: &Walk, p: usize, trace: &mut [u16], from: usize) -> usize
     ensures { (result + p ≡ 239) × (trace.new ≡ paste trace.old from (drop p back.now) result) }
 {
     let n = 239 - p;
-    let mut i: usize = 0;
-    while i < n {
-        trace[from + i] = back[p + i];
-        i += 1;
-    }
+    trace[from..from + n].copy_from_slice(&back[p..]);
     n
 }
 
 // The whole sum of lower bounds of the walk from k to the end m that is walked back.
-fn end_sum(goal: Goal, cells: &Cells, count: usize, best: &Sums, k: usize, m: usize) -> usize
-    requires { Sound cells.now count × (k < count) × ReadyFor goal (rows cells.now count) k best.now × EndsIn goal (rows cells.now count) k m }
-    ensures { EndSum goal (rows cells.now count) k m best.now result }
+fn end_sum(goal: Goal, fit: Fit<'_>, best: &Sums, k: usize, m: usize) -> usize
+    requires { (k < length fit.rows.now) × ReadyFor goal (transitions fit.rows.now) k best.now × EndsIn goal (transitions fit.rows.now) k m }
+    ensures { EndSum goal (transitions fit.entry.rows.now) k m best.now result }
 {
-    let first = row(cells, count, k);
-    let last = row(cells, count, m);
+    let first = fit.rows[k];
+    let last = fit.rows[m];
     let top = criterion::most_before(first, last);
-    let e = last.from as usize;
+    let e = last.from;
     let enough = enough_for(goal, number(best, top, e));
-    least_row(best, e, top, enough) + last.u as usize
+    least_row(best, e, top, enough) + usize::from(last.u)
 }
 
 // Step k, then the walk back from its end m, written from place `from` on.
 fn write_pair(
     goal: Goal,
-    cells: &Cells,
-    count: usize,
+    fit: Fit<'_>,
     best: &Sums,
     k: usize,
     m: usize,
     trace: &mut [u16],
     from: usize,
 ) -> usize
-    requires { Sound cells.now count × (k < count) × ReadyFor goal (rows cells.now count) k best.now × EndsIn goal (rows cells.now count) k m
+    requires { (k < length fit.rows.now) × ReadyFor goal (transitions fit.rows.now) k best.now × EndsIn goal (transitions fit.rows.now) k m
         × (from + 239 ≤ length trace.old) }
-    ensures { ShownWalk goal (rows cells.now count) k m from trace.old trace.new result }
+    ensures { ShownWalk goal (transitions fit.entry.rows.now) k m from trace.old trace.new result }
 {
-    let s = row(cells, count, k).to as usize;
-    let sum = end_sum(goal, cells, count, best, k, m);
+    let s = fit.rows[k].to;
+    let sum = end_sum(goal, fit, best, k, m);
     let mut back = [0u16; 239];
-    let p = walk_back(cells, count, s, best, m, sum, &mut back, 239) - 1;
+    let p = walk_back(fit, s, best, m, sum, &mut back, 239) - 1;
     back[p] = low(k);
     put_walk(&back, p, trace, from)
 }
 
 // The sums of the walks after k, as far as its ends are looked at.
-fn fill_for(goal: Goal, cells: &Cells, count: usize, k: usize, best: &mut Sums)
-    requires { Sound cells.now count × (k < count) × (length best.old ≡ 7648) }
-    ensures { ReadyFor goal (rows cells.now count) k best.new }
+fn fill_for(goal: Goal, fit: Fit<'_>, k: usize, best: &mut Sums)
+    requires { (k < length fit.rows.now) × (length best.old ≡ 7648) }
+    ensures { ReadyFor goal (transitions fit.entry.rows.now) k best.new }
 {
-    let first = row(cells, count, k);
-    let n = rows_for(goal, first, all_ends(cells, count));
-    fill(cells, count, first.to as usize, best, n);
+    let first = fit.rows[k];
+    let n = rows_for(goal, first, all_ends(fit));
+    fill(fit, first.to, best, n);
 }
 
 // A pair whose first step is k, with the least end, written from place `from` on; 0 where there is none.
 pub(crate) fn show(
     goal: Goal,
-    cells: &Cells,
-    count: usize,
+    fit: Fit<'_>,
     k: usize,
     best: &mut Sums,
     trace: &mut [u16],
     from: usize,
 ) -> usize
-    requires { Sound cells.now count × (k < count) × (length best.old ≡ 7648) × (from + 239 ≤ length trace.old) }
-    ensures { ShownIfAny goal (rows cells.now count) k from trace.old trace.new result }
+    requires { (k < length fit.rows.now) × (length best.old ≡ 7648) × (from + 239 ≤ length trace.old) }
+    ensures { ShownIfAny goal (transitions fit.entry.rows.now) k from trace.old trace.new result }
 {
-    fill_for(goal, cells, count, k, best);
-    match ends(goal, cells, count, best, k) {
-        Found::At(m) => write_pair(goal, cells, count, best, k, m, trace, from),
-        Found::Nothing => 0,
+    fill_for(goal, fit, k, best);
+    match ends(goal, fit, best, k) {
+        Some(m) => write_pair(goal, fit, best, k, m, trace, from),
+        None => 0,
     }
 }

@@ -1,2 +1,3 @@
 pub mod WayLaws
 pub mod WitnessLaws
+pub mod ReadyLaws

@@ -7,6 +7,7 @@ use lib.ListN.{length, take, drop, length-append, length-drop}
 use lib.Seq.{drop-drop, drop-append-add, take_at}
 use Rattle.model.specs.Table.{Transition, at}
 use Rattle.model.specs.Trace.{Trace}
+use Rattle.table.specs.declared.Row.{Row}
 use Rattle.table.specs.Rows.{rows, row_of, said}
 use Rattle.table.specs.Fit.{Sound}
 use Rattle.table.proofs.FitLaws.{row-said}
@@ -16,7 +17,7 @@ use Rattle.reach.proofs.ReachLaws.{WayShown, way-shown}
 use Rattle.witness.specs.Witness.{way_for}
 
 -- a transition i that leaves a marked state, and room for a trace that goes there
-module _ {c : List ℕ} {n : ℕ} (sound : Sound c n) {initial : ℕ} {dist via : List ℕ} (reach : Reach (rows c n) initial dist via) {trace : List ℕ}
+module _ {c : List Row} {n : ℕ} (sound : Sound c n) {initial : ℕ} {dist via : List ℕ} (reach : Reach (rows c n) initial dist via) {trace : List ℕ}
     (places : 270 ≤ length trace) {i : ℕ} (first : i < length (rows c n)) (marked : 1 ≤ mark dist (at (rows c n) i).from) {one : List ℕ} {k : ℕ}
     (wrote : WayStands c dist via (row_of c i).from trace one k) where
   abbrev ts : List Transition

@@ -1,17 +1,13 @@
--- Letters, then both halves, one after the other. Assumes nothing.
-use Rattle.model.proofs.AnswerLaws.{told, untold}
+use Rattle.std.proofs.Common.{sym, ◌∙◌, rules}
+use Rattle.model.proofs.AnswerLaws.{told, tells-same}
 use Rattle.criterion.proofs.crosses.Goals as goal
+use Rattle.criterion.proofs.crosses.Goals.{then-differ, else-differ}
 
-pub returns-then-not-above : goal.returns-then-not-above
-returns-then-not-above c = λ h. untold c.above.result c.above.ensures (c.if-not-above.true) h.above
-
-pub returns-then-not-below : goal.returns-then-not-below
-returns-then-not-below c = λ h. untold c.below.result c.below.ensures (c.if-not-below.true) h.below
-
-pub returns : goal.returns
-returns c =
-    record {
-      differ = told c.differ.result c.differ.ensures (c.if-not-differ.false);
-      above = told c.above.result c.above.ensures (c.if-not-above.false);
-      below = told c.below.result c.below.ensures (c.if-not-below.false);
-    }
+pub returns-then-above : goal.returns-then-above
+returns-then-above c = elim c.if-differ.branch [
+  | then-differ w ↦
+      let unlike = told c.differ.result c.differ.ensures w.if-differ.true in
+      let sooner = told w.above.result w.above.ensures (sym w.value-is ∙ c.if-above.true) in
+      tells-same c.below.result (λ b. record { differ = unlike; above = sooner; below = b }, λ t. t.below) c.below.ensures
+  | else-differ w ↦ search rules
+]

@@ -1,13 +1,11 @@
-use mathlib.Core.Path.{refl}
+use Rattle.std.proofs.Common.{refl}
 use Rattle.table_file.proofs.OutcomeLaws.{into-valid}
 use Rattle.places.proofs.ReadingLaws.{into-read}
 use Rattle.player_bytes.proofs.play_bytes.Goals as goal
 
 pub play_on-requires : goal.play_on-requires
-play_on-requires c =
-    into-valid _ (λ i. (c.type_inv.file i).fits) c.read_into-read.ensures refl
+play_on-requires c = into-valid _ (λ i. (c.type_inv.file i).fits) _ _ c.in_ok-read_into.ensures refl
 
 pub returns : goal.returns
 returns c =
-    rw (into-read _ c.read_into-read.ensures (λ i. (c.type_inv.file i).fits) refl
-    c.in_default.is) c.play_on.ensures
+    rw (into-read _ _ _ (λ i. (c.type_inv.file i).fits) refl c.in_ok-read_into.ensures) c.play_on.ensures

@@ -1,5 +1,6 @@
-use Rattle.std.proofs.Common.{arith}
+-- Written out so that an edit of the test is refused by values.
+use Rattle.std.proofs.Common.{rules}
 use Rattle.reach.proofs.mark_of.Goals as goal
 
-pub bounds-l-i : goal.bounds-l-i
-bounds-l-i c = omega arith
+pub returns : goal.returns
+returns c = search rules

@@ -9,8 +9,5 @@ use Rattle.reach.proofs.write_way.Given as goal
 
 abbrev pub invariant-loop-n : goal.invariant-loop-n
 invariant-loop-n l =
-    (l.n ≤ l.steps) × (l.steps ≡ mark l.dist l.end - 1) × (l.steps ≤ length l.initial.trace) × (length l.trace ≡ length l.initial.trace)
-    × Written (λ i. said (row_of l.cells i)) l.via l.initial.trace l.steps l.end l.trace l.n l.s
-
-abbrev pub decreases-loop-n : goal.decreases-loop-n
-decreases-loop-n l = l.n
+    (l.steps ≡ mark l.ways.dist l.end - 1) × (l.steps ≤ length l.initial.trace)
+    × Written (λ x. said (row_of l.rows x)) l.ways.via l.initial.trace l.steps l.end l.trace l.n l.s

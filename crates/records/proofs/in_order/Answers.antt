@@ -1,14 +1,16 @@
-use borrow.Author.Tests.{eq-eqb, ne_eqb, lt-ltb, le-ltb}
+use Rattle.std.proofs.Common.{arith}
+use Rattle.records.proofs.ListLaws.{fine-order, order-fine}
 use Rattle.records.proofs.in_order.Goals as goal
+use Rattle.records.proofs.in_order.Goals.{then-p-below-via-then-p-below, then-p-below-via-else-p-below+then-inputs-p, then-p-below-via-else-p-below+else-inputs-p+then-p-gt61440}
 
-pub returns-then-p-eq0 : goal.returns-then-p-eq0
-returns-then-p-eq0 c = simp (eq-eqb _ _ c.if-p-eq0.true)
-
-pub returns-then-s-p : goal.returns-then-s-p
-returns-then-s-p c = simp (ne_eqb _ _ c.if-p-eq0.false, lt-ltb _ _ c.if-s-p.true)
-
-pub returns-then-p-gt61440 : goal.returns-then-p-gt61440
-returns-then-p-gt61440 c = simp (ne_eqb _ _ c.if-p-eq0.false, le-ltb _ _ c.if-s-p.false, lt-ltb _ _ c.if-p-gt61440.true)
+pub returns-then-p-below : goal.returns-then-p-below
+returns-then-p-below c = λ o.
+    let f = order-fine c.args.waiting.now c.args.inputs o c.loop-p.p-index c.loop-p-test.true in
+    elim c.then-p-below.branch [
+      | then-p-below-via-then-p-below w ↦ omega (arith, w.if-p-below.true, c.loop-p.invariant.0, f.0)
+      | then-p-below-via-else-p-below+then-inputs-p w ↦ omega (arith, w.if-inputs-p.true, f.1)
+      | then-p-below-via-else-p-below+else-inputs-p+then-p-gt61440 w ↦ omega (arith, w.if-p-gt61440.true, f.2)
+    ]
 
 pub returns : goal.returns
-returns c = simp (ne_eqb _ _ c.if-p-eq0.false, le-ltb _ _ c.if-s-p.false, le-ltb _ _ c.if-p-gt61440.false)
+returns c = fine-order c.args.waiting.now c.args.inputs (λ i h. c.loop-p.invariant.1 i (omega (arith, c.loop-p-test.false)))

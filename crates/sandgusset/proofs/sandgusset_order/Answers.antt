@@ -6,5 +6,5 @@ pub returns : goal.returns
 returns c = record {
   said = order_fields c.order_table_bytes-a.result;
   outcome = c.order_table_bytes-a.ensures;
-  packs = c.on_order.ensures;
+  packs = c.pack.ensures;
 }

@@ -1,10 +1,10 @@
 -- The search finds this too; named, a check that fails says which part differs.
-use Rattle.replay.specs.Play.{replayed_fields}
+use Rattle.table.specs.Refusal.{checked_fields}
 use Rattle.sandgusset.proofs.sandgusset_replay.Goals as goal
 
 pub returns : goal.returns
 returns c = record {
-  said = replayed_fields c.replay_bytes-a.result;
+  said = checked_fields c.replay_bytes-a.result;
   outcome = c.replay_bytes-a.ensures;
-  packs = c.replayed.ensures;
+  packs = c.pack.ensures;
 }

@@ -1,11 +1,8 @@
--- What is not named follows from the arithmetic around it.
-use mathlib.Core.Path.{refl}
-use lib.ListN.{get_or-replicate}
-use Rattle.model.proofs.AnswerLaws.{told}
-use Rattle.soonest.proofs.SoonestLaws.{real-none}
+use Rattle.std.proofs.Common.{rules}
+use Rattle.soonest.proofs.SoonestLaws.{FoundAt, found_lowest}
 use Rattle.soonest.proofs.lowest_overtaken.Goals as goal
 
-pub settle-requires : goal.settle-requires
-settle-requires c =
-    let r = c.in_limits in
-    (told r.result r.ensures (c.if-not-in_limits.false), real-none _ refl (λ s h. get_or-replicate 32 s 240 0 h))
+pub returns : goal.returns
+returns c =
+    let h : FoundAt c.args.rows.now c.args.dist.now c.settle-soonest.result c.position.result = search rules in
+    found_lowest c.in_ok-new.field-0 c.in_ok-new.ensures.is _ c.settle-soonest.ensures _ h

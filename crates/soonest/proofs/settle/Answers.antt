@@ -1,12 +1,14 @@
--- What is not named follows from the arithmetic around it.
-use Rattle.table.specs.Rows.{rows}
+use mathlib.Core.Path.{refl}
+use lib.ListN.{length, get_or-replicate}
+use Rattle.table.specs.Rows.{transitions}
 use Rattle.table.proofs.RowLaws.{length-rows}
-use Rattle.soonest.proofs.SoonestLaws.{round-done}
+use Rattle.soonest.proofs.SoonestLaws.{real-none, round-done}
 use Rattle.soonest.proofs.settle.Goals as goal
 
-pub returns-then-not-lower_all : goal.returns-then-not-lower_all
-returns-then-not-lower_all c =
-    let l = c.loop-count in
-    let a = c.args in
-    round-done (rows a.cells.now a.count) a.count l.soonest c.lower_all.result (c.if-not-lower_all.true)
-    (length-rows a.cells.now a.count) l.invariant c.lower_all.ensures
+pub loop-init : goal.loop-init
+loop-init c = real-none _ refl (λ s h. get_or-replicate 32 s 240 0 h)
+
+pub returns : goal.returns
+returns c =
+    let t = c.args.fit.rows.now in
+    round-done (transitions t) (length t) c.loop.soonest c.lower_all.result c.loop-test.false (length-rows t (length t)) c.loop.invariant c.lower_all.ensures

@@ -1,66 +1,50 @@
 -- The loop keeps that no number passed makes a pair with i.
 use native.Mathlib.Omega.{arith}
-use native.Mathlib.Nat.{pos_of_ne-zero}
-use mathlib.Core.Path.{◌≡◌, sym, ◌∙◌}
+use mathlib.Core.Path.{◌≡◌, ap}
 use lib.ListN.{length}
 use borrow.Author.Count.{below_more}
 use Rattle.model.specs.Answers.{Tells}
-use Rattle.model.specs.Table.{at}
+use Rattle.model.specs.Table.{Transition, at}
 use Rattle.model.proofs.AnswerLaws.{told, untold}
-use Rattle.table.specs.Rows.{rows}
-use Rattle.table.proofs.RowLaws.{length-rows}
-use Rattle.split_pair.specs.Split.{Forks, MarkedPair}
-use Rattle.split_pair.proofs.SplitLaws.{partner-none, leaves-here, forks-here}
+use Rattle.table.specs.Rows.{transitions}
+use Rattle.table.proofs.RowLaws.{at_rows, length-rows}
+use Rattle.reach.specs.Reach.{mark}
+use Rattle.split_pair.specs.Split.{Forks}
 use Rattle.split_pair.proofs.partner.Goals as goal
-use Rattle.split_pair.proofs.partner.Goals.{After-forks}
+use Rattle.split_pair.proofs.partner.Goals.{After-mark_of, After-forks}
+
+-- the mark that was read
+read : (p : After-mark_of) → p.mark_of.result ≡ mark p.args.dist.now (at (transitions p.args.rows.now) p.args.i).from
+read p =
+    let t = p.args.rows.now in
+    omega (arith, p.mark_of.ensures, ap (λ (x : Transition). mark p.args.dist.now x.from) (at_rows t (length t) p.args.i p.requires))
 
 pub returns-then-mark_of-eq0 : goal.returns-then-mark_of-eq0
-returns-then-mark_of-eq0 c =
-    let a = c.args in
-    let ts = rows a.cells.now a.count in
-    let n : length ts ≡ a.count = length-rows a.cells.now a.count in
-    let e = leaves-here a.cells.now a.dist.now a.count c.requires.0 a.i c.requires.1 c.row_of-row.ensures in
-    rw n at (partner-none ts a.dist.now a.i (sym e ∙ sym c.mark_of.ensures ∙ c.if-mark_of-eq0.true))
+returns-then-mark_of-eq0 c = λ y m. omega (arith, read (goal.at.returns-then-mark_of-eq0 c).After-mark_of, m.marked)
 
 -- the test of j, told of the two transitions
-after-forks : (p : After-forks)
-    → let a = p.args in
-    Tells p.forks.result (Forks (at (rows a.cells.now a.count) a.i) (at (rows a.cells.now a.count) p.loop-j.j))
-after-forks p =
-    let a = p.args in
-    forks-here a.cells.now a.dist.now a.count p.requires.0 a.i p.requires.1 p.row_of-row.ensures p.loop-j.j
-    p.loop-j-test.true p.row_of.ensures p.forks.result p.forks.ensures
+tested : (p : After-forks) → let ts = transitions p.args.rows.now in Tells p.forks.result (Forks (at ts p.args.i) (at ts p.loop-j.j))
+tested p =
+    let t = p.args.rows.now in
+    rw (at_rows t (length t) p.args.i p.requires, at_rows t (length t) p.loop-j.j p.loop-j-test.true) p.forks.ensures
 
 pub returns-then-forks : goal.returns-then-forks
 returns-then-forks c =
-    let a = c.args in
-    let l = c.loop-j in
-    let e = leaves-here a.cells.now a.dist.now a.count c.requires.0 a.i c.requires.1 c.row_of-row.ensures in
-    let n = length-rows a.cells.now a.count in
-    let m = pos_of_ne-zero c.if-mark_of-eq0.false in
-    record {
-      within = omega arith;
-      pair = λ h. record {
-        marked = omega (arith, c.mark_of.ensures);
-        ordered = l.invariant.0;
-        inside = h;
-        forks = told c.forks.result (after-forks (goal.at.returns-then-forks c).After-forks) c.if-forks.true;
-      };
-      least = l.invariant.2;
-    }
+    let t = c.args.rows.now in
+    let p = goal.at.returns-then-forks c in (
+      record {
+        marked = omega (arith, read p.After-mark_of);
+        ordered = omega arith;
+        inside = omega (arith, length-rows t (length t));
+        forks = told _ (tested p.After-forks) c.if-forks.true;
+      },
+      c.loop-j.invariant,
+    )
 
 pub loop-j-preserved : goal.loop-j-preserved
-loop-j-preserved c =
-    let a = c.args in
-    let l = c.loop-j in (
-      omega arith,
-      omega arith,
-      below_more (λ y. MarkedPair (rows a.cells.now a.count) a.dist.now a.i y → ⊥) l.j l.invariant.2
-          (λ m. untold c.forks.result (after-forks (goal.at.loop-j-preserved c).After-forks) c.if-forks.false m.forks),
-    )
+loop-j-preserved c = below_more _ c.loop-j.j c.loop-j.invariant (λ m. untold _ (tested (goal.at.loop-j-preserved c).After-forks) c.if-forks.false m.forks)
 
 pub returns : goal.returns
 returns c =
-    let a = c.args in
-    let n = length-rows a.cells.now a.count in
-    record { within = omega arith; pair = λ h. absurd (omega arith); least = c.loop-j.invariant.2 }
+    let t = c.args.rows.now in
+    λ y m. c.loop-j.invariant y (omega (arith, m.inside, length-rows t (length t))) m

@@ -1,10 +1,13 @@
 use native.Mathlib.Omega.{arith}
-use mathlib.Core.Path.{sym, ◌∙◌}
-use Rattle.table.proofs.RowLaws.{row_near, row-far}
+use mathlib.Core.Path.{refl, sym}
+use lib.ListN.{get_or-eq_default}
+use Rattle.table.specs.Rows.{blank, row_of}
 use Rattle.table.proofs.row_of.Goals as goal
 
-pub returns-then-i-ge256 : goal.returns-then-i-ge256
-returns-then-i-ge256 c = row-far _ _ (omega arith)
+pub returns-then-i-rows : goal.returns-then-i-rows
+unfolding row_of
+returns-then-i-rows c = refl
 
-pub returns : goal.returns
-returns c = c.row_at.ensures ∙ sym (row_near _ _ (omega arith))
+pub returns-else-i-rows : goal.returns-else-i-rows
+unfolding row_of
+returns-else-i-rows c = sym (get_or-eq_default c.args.rows.now blank (omega arith))

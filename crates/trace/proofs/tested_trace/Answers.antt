@@ -1,26 +1,28 @@
+use Rattle.std.proofs.Common.{refl}
+use Rattle.std.proofs.lemmas.Result.{err_from_is_err_and}
 use Rattle.model.specs.Table.{Valid}
-use Rattle.model.proofs.AnswerLaws.{untold}
-use Rattle.table.specs.declared.Table.{Table}
-use Rattle.table.specs.Rows.{table_in, machine_of}
+use Rattle.table.specs.Rows.{machine_of}
 use Rattle.table.proofs.TestLaws.{sound-valid}
-use Rattle.trace.proofs.TraceLaws.{no_table, no-trace}
+use Rattle.trace.proofs.TraceLaws.{no_table, no-trace, a-trace, trace-lent}
 use Rattle.trace.proofs.tested_trace.Goals as goal
-use Rattle.trace.proofs.tested_trace.Goals.{In_default}
+use Rattle.trace.proofs.tested_trace.Goals.{In_ok-check}
 
-pub returns-in-Refused : goal.returns-in-Refused
-returns-in-Refused c =
-    no_table (table_in c.args.states c.args.initial c.args.count c.args.cells.now) c.args.trace.now c.in-Refused.is c.check_parts-checked.ensures
+-- the table passed its check
+valid : (p : In_ok-check) → Valid (machine_of p.args.t.now)
+valid p = sound-valid _ refl p.in_ok-check.ensures
 
--- the table that is lent
-abbrev lent : In_default → Table
-lent p = table_in p.args.states p.args.initial p.args.count p.args.cells.now
-
--- it passed its check
-valid : (p : In_default) → Valid (machine_of (lent p))
-valid p = sound-valid _ p.in_default.is p.check_parts-checked.ensures
+pub returns-in_err-check : goal.returns-in_err-check
+returns-in_err-check c =
+    let p = err_from_is_err_and c.from_residual.result c.from_residual.ensures.1 in
+    rw (p.1, p.2) (no_table c.args.t.now c.args.trace.now refl c.in_err-check.ensures)
 
 pub returns-then-not-is_trace : goal.returns-then-not-is_trace
 returns-then-not-is_trace c =
-    let p : In_default = (goal.at.returns-then-not-is_trace c).In_default in
-    no-trace (lent p) c.args.trace.now (valid p)
-    (untold c.is_trace.result c.is_trace.ensures (c.if-not-is_trace.true))
+    let v = valid (goal.at.returns-then-not-is_trace c).In_ok-check in
+    no-trace c.args.t.now c.args.trace.now v
+    (λ h. c.if-not-is_trace.ensures ((trace-lent c.args.t.now c.args.trace.now v c.rows.result.now c.rows.ensures.number c.rows.ensures.held).1 h))
+
+pub returns : goal.returns
+returns c =
+    let v = valid (goal.at.returns c).In_ok-check in
+    a-trace c.args.t.now c.args.trace.now v ((trace-lent c.args.t.now c.args.trace.now v c.rows.result.now c.rows.ensures.number c.rows.ensures.held).0 c.if-not-is_trace.ensures)

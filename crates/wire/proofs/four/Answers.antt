@@ -1,5 +1,5 @@
--- What is not named follows from the arithmetic around it.
-use mathlib.Core.Path.{sym, ◌∙◌}
+use mathlib.Core.Path.{sym}
+use native.Mathlib.Omega.{arith}
 use Rattle.wire.proofs.Bytes.{le-past, le-halves}
 use Rattle.wire.proofs.four.Goals as goal
 
@@ -7,6 +7,4 @@ pub returns-then-b-k : goal.returns-then-b-k
 returns-then-b-k c = sym (le-past 4 c.args.b.now c.args.k c.if-b-k.true)
 
 pub returns : goal.returns
-returns c =
-    let a = c.args in
-    c.quad.ensures ∙ rw (c.two.ensures, c.two-2.ensures) (sym (le-halves a.b.now a.k))
+returns c = omega (arith, le-halves c.args.b.now c.args.k)

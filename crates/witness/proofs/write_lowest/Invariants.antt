@@ -1,11 +1,12 @@
--- Two tries: nothing is written until one shows a pair. What is not named follows from the arithmetic around it.
+-- Two tries: nothing is written until one shows a pair.
 use mathlib.Core.Path.{◌≡◌}
 use mathlib.Core.Bool.{cond}
+use lib.ListN.{length}
 use Rattle.witness.proofs.WitnessLaws.{Tried}
 use Rattle.witness.proofs.write_lowest.Given as goal
 
-abbrev pub invariant-loop-found : goal.invariant-loop-found
-invariant-loop-found l = (l.trace ≡ l.initial.trace) × Tried l.goal l.cells l.count l.dist l.last l.found
+abbrev pub invariant-loop-trace : goal.invariant-loop-trace
+invariant-loop-trace l = (l.trace ≡ l.initial.trace) × Tried l.goal l.rows (length l.rows) l.ways.dist l.last l.found
 
-abbrev pub decreases-loop-found : goal.decreases-loop-found
-decreases-loop-found l = cond l.last 0 1
+abbrev pub decreases-loop-trace : goal.decreases-loop-trace
+decreases-loop-trace l = cond l.last 0 1

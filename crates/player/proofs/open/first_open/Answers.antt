@@ -1,18 +1,9 @@
-use native.Mathlib.Omega.{arith}
-use Rattle.player.proofs.OpenLaws.{open-here, open_next, open_none}
+use Rattle.std.proofs.Common.{rules}
+use Rattle.player.proofs.OpenLaws.{OpenAt, first-open}
 use Rattle.player.proofs.open.first_open.Goals as goal
 
-pub returns-then-opens : goal.returns-then-opens
-returns-then-opens c =
-    open-here _ _ _ _ _ c.requires _ c.loop-i-test.true c.row_of.ensures c.loop-i.invariant.1
-    (rw c.if-opens.true at c.opens.ensures)
-
-pub loop-i-preserved : goal.loop-i-preserved
-loop-i-preserved c = (
-  omega arith,
-  open_next _ _ _ _ _ c.requires _ c.loop-i-test.true c.row_of.ensures c.loop-i.invariant.1
-      (rw c.if-opens.false at c.opens.ensures),
-)
-
 pub returns : goal.returns
-returns c = open_none _ _ _ _ _ _ c.loop-i.invariant.0 (omega arith) c.loop-i.invariant.1
+returns c =
+    let a = c.args in
+    let at : OpenAt a.rows.now a.state a.letter a.timer c.position.result = search rules in
+    first-open a.rows.now a.state a.letter a.timer c.position.result at

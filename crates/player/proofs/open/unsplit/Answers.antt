@@ -1,21 +1,21 @@
-use Rattle.table.specs.Rows.{table_in}
-use Rattle.player.proofs.OpenLaws.{admits, pair-splits, none-splits}
+use Rattle.std.proofs.Common.{◌≡◌}
+use Rattle.table.specs.Rows.{machine_of, transitions}
+use Rattle.table.proofs.TestLaws.{valid-count}
+use Rattle.player.proofs.OpenLaws.{admits, split-told}
 use Rattle.player.proofs.open.unsplit.Goals as goal
+use Rattle.player.proofs.open.unsplit.Goals.{After-rows-rows}
 
-pub returns-then-not-reach : goal.returns-then-not-reach
-returns-then-not-reach c =
-    let a = c.args in
-    let told = rw c.if-not-reach.true at c.reach.ensures in
-    absurd (told.0 (admits (table_in a.states a.initial a.count a.cells.now) c.requires))
+-- the slice of a checked table holds its transitions
+held : (p : After-rows-rows) → transitions p.rows-rows.result.now ≡ (machine_of p.args.t.now).transitions
+held p = p.rows-rows.ensures.held (valid-count p.args.t.now p.requires)
 
-pub returns-in-At : goal.returns-in-At
-returns-in-At c =
+pub returns-in_default : goal.returns-in_default
+returns-in_default c =
     let a = c.args in
-    let told = rw c.if-not-reach.false at c.reach.ensures in
-    λ n. n (pair-splits (table_in a.states a.initial a.count a.cells.now) c.requires told.1 _ _ c.in-At.ensures)
+    absurd (c.in_default.ensures (admits a.t.now c.requires c.rows-rows.result.now (held (goal.at.returns-in_default c).After-rows-rows)))
 
 pub returns : goal.returns
 returns c =
     let a = c.args in
-    let told = rw c.if-not-reach.false at c.reach.ensures in
-    none-splits (table_in a.states a.initial a.count a.cells.now) c.requires told.1 c.in_default.ensures
+    split-told a.t.now c.requires c.rows-rows.result.now (held (goal.at.returns c).After-rows-rows) c.in-Some.ensures.1 c.first_split.result c.is_none.result
+    c.first_split.ensures c.is_none.ensures

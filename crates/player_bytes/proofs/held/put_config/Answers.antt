@@ -3,5 +3,5 @@ use Rattle.player_bytes.proofs.held.put_config.Goals as goal
 
 pub returns : goal.returns
 returns c =
-    config-put c.args.c c.args.out.now _ _ c.requires c.put_twos.ensures
-    c.put_fours.ensures
+    config-put c.args.c c.args.out.now _ _ c.requires c.put.ensures
+    c.put-2.ensures

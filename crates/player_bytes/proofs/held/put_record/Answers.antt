@@ -5,4 +5,4 @@ use Rattle.player_bytes.proofs.held.put_record.Goals as goal
 pub returns : goal.returns
 returns c =
     record-put c.args.p c.args.out.now _ _ c.args.k (omega (arith, c.requires))
-    c.put_twos.ensures c.put_fours.ensures
+    c.put.ensures c.put-2.ensures

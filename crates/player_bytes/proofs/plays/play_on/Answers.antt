@@ -1,26 +1,25 @@
-use native.Mathlib.Omega.{arith}
-use mathlib.Core.Path.{refl}
-use Rattle.table.specs.Rows.{machine_of}
-use Rattle.table_file.specs.File.{held_in}
+use Rattle.std.proofs.Common.{refl, arith}
 use mathlib.Core.Logic.{inl}
+use Rattle.std.proofs.lemmas.Result.{err_from_is_err_and}
+use Rattle.table.specs.Rows.{machine_of}
 use Rattle.table.specs.Tests.{refuses}
-use Rattle.player_bytes.proofs.PlayLaws.{on-short, on-refused}
+use Rattle.player_bytes.proofs.PlayLaws.{on-refused, on-done}
 use Rattle.player_bytes.proofs.plays.play_on.Goals as goal
 
 pub returns-then-config-lt10 : goal.returns-then-config-lt10
 returns-then-config-lt10 c = refuses refl (inl ((λ r. omega (arith, r)), refl, refl)) (refl, refl)
 
-pub returns-then-lent-lt240 : goal.returns-then-lent-lt240
-returns-then-lent-lt240 c =
+pub returns-in_err-done : goal.returns-in_err-done
+returns-in_err-done c =
     let a = c.args in
-    let m = machine_of (held_in a.read a.cells.now) in
-    on-short m c.requires a.config.now a.waiting.now a.m (omega arith) c.config_in-c.ensures
-    c.records_in-list.ensures (omega arith) c.short.ensures
+    let p = err_from_is_err_and c.from_residual.result c.from_residual.ensures.1 in
+    let o = rw c.in_err-done.was at c.play-moved.ensures in
+    rw (p.1, p.2) (on-refused (machine_of a.t.now) c.requires a.config.now a.waiting.now a.m (omega arith) c.config_in-c.ensures
+    c.records_in-list.ensures (omega (arith, c.min-lent.ensures)) _ o)
 
-pub returns-then-number-gt0 : goal.returns-then-number-gt0
-returns-then-number-gt0 c =
+pub returns : goal.returns
+returns c =
     let a = c.args in
-    let m = machine_of (held_in a.read a.cells.now) in
-    on-refused m c.requires a.config.now a.waiting.now a.m (omega arith)
-    c.config_in-c.ensures c.records_in-list.ensures
-    (omega arith) (omega (arith, c.number.ensures)) c.play_held-p.ensures
+    let o = rw c.in_ok-done.was at c.play-moved.ensures in
+    on-done (machine_of a.t.now) c.requires a.config.now a.waiting.now a.m (omega arith) c.config_in-c.ensures c.records_in-list.ensures
+    (omega (arith, c.min-lent.ensures)) _ o c.put_config.ensures c.put_records.ensures

@@ -1,19 +1,20 @@
 use native.Mathlib.Omega.{arith}
-use Rattle.walks.proofs.WalkLaws.{late-top}
+use Rattle.walks.proofs.WalkLaws.{late-top, seen}
 use Rattle.starts.proofs.TableLaws.{skip-long, skip-full, put-more}
 use Rattle.starts.proofs.sums.improve.Goals as goal
 
 pub returns-then-b-u : goal.returns-then-b-u
-returns-then-b-u c = skip-long c.requires.2 c.row-t.ensures c.if-b-u.true
+returns-then-b-u c = skip-long c.requires.1 (seen c.args.fit c.args.i c.requires.0) (omega arith)
 
 pub returns-then-a-ge61440 : goal.returns-then-a-ge61440
-returns-then-a-ge61440 c = skip-full c.requires.2 c.row-t.ensures c.entry-a.ensures c.if-a-ge61440.true
+returns-then-a-ge61440 c = skip-full c.requires.1 (seen c.args.fit c.args.i c.requires.0) c.entry-a.ensures c.if-a-ge61440.true
 
 pub joined-requires : goal.joined-requires
-joined-requires c = omega (arith, late-top c.row-t.ensures.fine, c.late_gap.ensures)
+joined-requires c = omega (arith, late-top (seen c.args.fit c.args.i c.requires.0).fine, c.late_gap.ensures)
 
 pub returns : goal.returns
 returns c =
     let p = c.put.ensures in
-    rw (p.0, p.1) (put-more c.requires.2 c.row-t.ensures c.if-b-u.false c.entry-a.ensures c.entry-n.ensures
-    c.late_gap.ensures c.joined.ensures c.ended-e.ensures)
+    let u = c.from-u.ensures in
+    rw (p.0, p.1) (put-more c.requires.1 (seen c.args.fit c.args.i c.requires.0) (omega arith) c.entry-a.ensures (rw u at c.entry-n.ensures)
+    c.late_gap.ensures c.joined.ensures (rw u at c.ended-e.ensures))

@@ -2,12 +2,12 @@ use native.Mathlib.Omega.{arith}
 use mathlib.Core.Path.{refl, sym, ap, ◌∙◌}
 use Prim.Native.Nat.{◌+◌}
 use lib.ListN.{drop}
+use Rattle.std.specs.Prelude.{Ok, Some}
 use Rattle.table_file.proofs.FrameLaws.{whole-other, whole-cut, whole-yes, frame-short, frame-cut, frame_row, frame-other, frame-end-cut, frame-end, Begun, begun, left_body}
 use lib.ListN.{length-drop}
 use Rattle.table_file.specs.File.{row_in}
-use Rattle.table_file.specs.declared.Frame.TheVariants.{Took}
 use Rattle.table_file.proofs.reader.frame.Goals as goal
-use Rattle.table_file.proofs.reader.frame.Goals.{After-two-size}
+use Rattle.table_file.proofs.reader.frame.Goals.{After-two-size, then-size-ne16-via-then-size-ne16, then-size-ne16-via-else-size-ne16+then-file-at-lt18}
 
 pub returns-then-file-at-lt4 : goal.returns-then-file-at-lt4
 returns-then-file-at-lt4 c =
@@ -24,18 +24,16 @@ read p =
 pub returns-then-size-ne16 : goal.returns-then-size-ne16
 returns-then-size-ne16 c =
     let r = read (goal.at.returns-then-size-ne16 c).After-two-size in
-    frame-cut _ _ (omega arith) (r.kind_is ∙ c.if-kind-eq2.true) (whole-other 16 _ (λ e. c.if-size-ne16.true (sym r.size_is ∙ e)))
-
-pub returns-then-file-at-lt18 : goal.returns-then-file-at-lt18
-returns-then-file-at-lt18 c =
-    let r = read (goal.at.returns-then-file-at-lt18 c).After-two-size in
-    frame-cut _ _ (omega arith) (r.kind_is ∙ c.if-kind-eq2.true) (whole-cut 16 _ (omega arith))
+    frame-cut _ _ (omega arith) (r.kind_is ∙ c.if-kind-eq2.true) (elim c.then-size-ne16.branch [
+      | then-size-ne16-via-then-size-ne16 w ↦ whole-other 16 _ (λ e. w.if-size-ne16.true (sym r.size_is ∙ e))
+      | then-size-ne16-via-else-size-ne16+then-file-at-lt18 w ↦ whole-cut 16 _ (omega (arith, w.if-file-at-lt18.true))
+    ])
 
 pub returns-then-kind-eq2 : goal.returns-then-kind-eq2
 returns-then-kind-eq2 c =
     let a = c.args in
     let r = read (goal.at.returns-then-kind-eq2 c).After-two-size in
-    (ap (λ x. Took x) (c.fields.ensures ∙ ap row_in (left_body a.file.now a.at (a.at + 18) refl)))
+    (ap (λ x. Ok (Some x)) (c.fields.ensures ∙ ap row_in (left_body a.file.now a.at (a.at + 18) refl)))
     ∙ frame_row _ _ (omega arith) (r.kind_is ∙ c.if-kind-eq2.true) (whole-yes 16 _ (r.size_is ∙ c.if-size-ne16.false) (omega arith))
 
 pub returns-then-kind-ne3 : goal.returns-then-kind-ne3

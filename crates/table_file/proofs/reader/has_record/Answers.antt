@@ -1,24 +1,33 @@
 -- What is not named follows from the arithmetic around it.
 use native.Mathlib.Omega.{arith}
-use mathlib.Core.Path.{◌≡◌, sym, ◌∙◌}
+use mathlib.Core.Path.{◌≡◌, refl, sym, ◌∙◌}
+use Prim.Native.Nat.{◌+◌, ◌*◌}
 use Rattle.table.specs.Rows.{said}
+use Rattle.table.specs.Check.{same}
 use Rattle.table.proofs.RowLaws.{has-none, has_more, has_here}
 use Rattle.table_file.specs.Records.{record_at}
+use Rattle.table_file.proofs.FrameLaws.{left_body}
+use Rattle.table_file.proofs.FileLaws.{same-bytes}
 use Rattle.table_file.proofs.reader.has_record.Goals as goal
+use Rattle.table_file.proofs.reader.has_record.Goals.{After-eq}
+
+-- what the comparison tells
+alike : (p : After-eq) → let l = p.args.file.now in p.eq.result ≡ same (said (record_at l p.loop-i.i)) (said (record_at l p.args.n))
+alike p =
+    let l = p.args.file.now in
+    let i = p.loop-i.i in
+    let n = p.args.n in
+    same-bytes l (λ k. (p.type_inv.file k).fits) i n (omega arith) (omega arith) p.eq.result
+    (rw (left_body l (8 + i * 18) (8 + i * 18 + 18) refl, left_body l (8 + n * 18) (8 + n * 18 + 18) refl) at p.eq.ensures)
 
 pub loop-i-init : goal.loop-i-init
-loop-i-init c = (omega arith, has-none _ _)
+loop-i-init c = has-none _ _
 
-pub returns-then-same_record : goal.returns-then-same_record
-returns-then-same_record c =
-    let a = c.args in
-    has_here (λ i. said (record_at a.file.now i)) (said (record_at a.file.now a.n)) a.n c.loop-i.i (omega arith) (sym c.same_record.ensures ∙ c.if-same_record.true)
+pub returns-then-eq : goal.returns-then-eq
+returns-then-eq c =
+    let l = c.args.file.now in
+    has_here (λ i. said (record_at l i)) (said (record_at l c.args.n)) c.args.n c.loop-i.i (omega arith)
+    (sym (alike (goal.at.returns-then-eq c).After-eq) ∙ c.if-eq.true)
 
 pub loop-i-preserved : goal.loop-i-preserved
-loop-i-preserved c =
-    (omega arith, has_more _ _ _ c.loop-i.invariant.1 (sym c.same_record.ensures ∙ c.if-same_record.false))
-
-pub returns : goal.returns
-returns c =
-    let e : c.loop-i.i ≡ c.args.n = omega arith in
-    sym (rw e at c.loop-i.invariant.1)
+loop-i-preserved c = has_more _ _ _ c.loop-i.invariant (sym (alike (goal.at.loop-i-preserved c).After-eq) ∙ c.if-eq.false)

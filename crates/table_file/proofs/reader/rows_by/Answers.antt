@@ -7,10 +7,7 @@ use Rattle.table_file.specs.Records.{record_at}
 use Rattle.table_file.proofs.ReadLaws.{kept-start}
 use Rattle.table_file.proofs.reader.rows_by.Goals as goal
 
-pub loop-c-init : goal.loop-c-init
-loop-c-init c =
+pub loop-n-init : goal.loop-n-init
+loop-n-init c =
     let a = c.args in
     (kept-start a.file.now _ a.states c.requires.0 (marked_start (λ i. said (record_at a.file.now i)) _ (omega (arith, c.requires.1))), refl)
-
-pub take_record-taken-requires : goal.take_record-taken-requires
-take_record-taken-requires c = c.loop-c.invariant.0

@@ -6,8 +6,7 @@ use Rattle.verdict.proofs.calm.look_back.Goals as goal
 
 pub loop-p-init : goal.loop-p-init
 loop-p-init c =
-    let p = c.requires in
-    (back_none p.0 p.1, looking-none _ _ _ _ p.0.few p.2 p.3)
+    rw (c.len-first.ensures, c.len-p.ensures) (back_none (omega arith), looking-none _ _ _ _ c.args.line.few (omega arith) (omega arith))
 
 pub overflow_sub-arrival : goal.overflow_sub-arrival
 overflow_sub-arrival c =
@@ -17,7 +16,7 @@ pub loop-p-preserved-then-p-eq0 : goal.loop-p-preserved-then-p-eq0
 loop-p-preserved-then-p-eq0 c =
     let l = c.loop-p.invariant in
     let n = number-here l.0 (omega arith) c.step-r.result c.step-r.ensures c.early_number-e.result c.early_number-e.ensures in (
-      back_more l.0 (omega arith) c.step-r.result c.step-r.ensures c.early_number-e.result c.early_number-e.ensures,
+      rw c.from-arrival.ensures (back_more l.0 (omega arith) c.step-r.result c.step-r.ensures c.early_number-e.result c.early_number-e.ensures),
       looking-block l.1 (omega arith) n c.after-still.result c.after-still.ensures c.with-s.result c.with-s.ensures
           c.first_unless-first.result c.first_unless-first.ensures (omega arith),
     )
@@ -26,7 +25,7 @@ pub loop-p-preserved : goal.loop-p-preserved
 loop-p-preserved c =
     let l = c.loop-p.invariant in
     let n = number-here l.0 (omega arith) c.step-r.result c.step-r.ensures c.early_number-e.result c.early_number-e.ensures in (
-      back_more l.0 (omega arith) c.step-r.result c.step-r.ensures c.early_number-e.result c.early_number-e.ensures,
+      rw c.from-arrival.ensures (back_more l.0 (omega arith) c.step-r.result c.step-r.ensures c.early_number-e.result c.early_number-e.ensures),
       looking-more l.1 (omega arith) n c.after-still.result c.after-still.ensures c.with-s.result c.with-s.ensures
           c.first_unless-first.result c.first_unless-first.ensures c.if-p-eq0.false,
     )

@@ -5,14 +5,11 @@ use Rattle.verdict.proofs.PairLaws.{looked-first, looked-last, next_small, none-
 use Rattle.verdict.proofs.pairs.partner_of.Goals as goal
 
 pub loop-m-init : goal.loop-m-init
-loop-m-init c =
-    looked-first c.requires.1 c.requires.0 c.step-first.result c.step-first.ensures
+loop-m-init c = looked-first c.requires c.step-first.result c.step-first.ensures
 
 pub overflow_add-u : goal.overflow_add-u
 overflow_add-u c =
-    let s = c.step-s in
-    let l = c.loop-m in
-    omega (arith, next_small l.invariant (omega arith) s.result s.ensures _ refl)
+    omega (arith, c.from-u.ensures, next_small c.loop-m.invariant (omega arith) c.step-s.result c.step-s.ensures _ refl)
 
 pub overflow_add-late : goal.overflow_add-late
 overflow_add-late c =
@@ -25,25 +22,23 @@ pub returns-then-spent : goal.returns-then-spent
 returns-then-spent c =
     let s = c.step-s in
     let g = c.late_gap-late in
-    let l = c.loop-m in
-    none-later l.invariant (omega arith) s.result s.ensures g.result g.ensures
-    (told c.spent.result c.spent.ensures c.if-spent.true)
+    none-later c.loop-m.invariant (omega arith) s.result s.ensures g.result g.ensures
+    (rw c.from-u.ensures at (told c.spent.result c.spent.ensures c.if-spent.true))
 
 pub returns-then-crosses : goal.returns-then-crosses
 returns-then-crosses c =
     let s = c.step-s in
     let g = c.late_gap-late in
-    let l = c.loop-m in
-    turns-here l.invariant (omega arith) s.result s.ensures g.result g.ensures (told c.crosses.result c.crosses.ensures c.if-crosses.true)
+    turns-here c.loop-m.invariant (omega arith) s.result s.ensures g.result g.ensures
+    (rw c.from-u.ensures at (told c.crosses.result c.crosses.ensures c.if-crosses.true))
 
 pub loop-m-preserved : goal.loop-m-preserved
 loop-m-preserved c =
     let s = c.step-s in
     let g = c.late_gap-late in
-    let l = c.loop-m in
-    looked-more l.invariant (omega arith) s.result s.ensures g.result g.ensures (untold c.spent.result c.spent.ensures c.if-spent.false)
-    (untold c.crosses.result c.crosses.ensures c.if-crosses.false)
+    rw c.from-u.ensures
+    (looked-more c.loop-m.invariant (omega arith) s.result s.ensures g.result g.ensures
+    (rw c.from-u.ensures at (untold c.crosses.result c.crosses.ensures c.if-crosses.false)))
 
 pub returns : goal.returns
-returns c =
-    looked-last c.loop-m.invariant c.loop-m-test.false
+returns c = looked-last c.loop-m.invariant (omega arith)

@@ -1,10 +1,6 @@
-use Prim.Native.Nat.{◌+◌, ◌-◌}
 use Rattle.table.specs.Rows.{said}
 use Rattle.verdict.proofs.PairLaws.{Looked}
 use Rattle.verdict.proofs.pairs.partner_of.Given as goal
 
 abbrev pub invariant-loop-m : goal.invariant-loop-m
-invariant-loop-m l = Looked l.cells l.trace l.k (said l.first) l.m l.u l.late
-
-abbrev pub decreases-loop-m : goal.decreases-loop-m
-decreases-loop-m l = l.k + 240 - l.m
+invariant-loop-m l = Looked l.line l.k (said l.first) l.m l.u l.late

@@ -1,10 +1,6 @@
-use Prim.Native.Nat.{◌≤◌, ◌-◌}
-use Rattle.table.specs.Rows.{rows}
+use Rattle.table.specs.Rows.{transitions}
 use Rattle.walks.specs.Soon.{Soon}
 use Rattle.walks.proofs.soon.all_ends.Given as goal
 
-abbrev pub invariant-loop-i : goal.invariant-loop-i
-invariant-loop-i l = (l.i ≤ l.count) × Soon (rows l.cells l.count) l.i l.s
-
-abbrev pub decreases-loop-i : goal.decreases-loop-i
-decreases-loop-i l = l.count - l.i
+abbrev pub invariant-loop-r : goal.invariant-loop-r
+invariant-loop-r l = Soon (transitions l.fit.rows.now) l.r-index l.s

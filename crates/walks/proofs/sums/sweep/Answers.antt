@@ -1,9 +1,10 @@
 use native.Mathlib.Omega.{arith}
+use lib.ListN.{length}
 use Rattle.table.proofs.RowLaws.{length-rows}
 use Rattle.walks.proofs.BestLaws.{making-end}
 use Rattle.walks.proofs.sums.sweep.Goals as goal
 
 pub returns : goal.returns
 returns c =
-    let a = c.args in
-    making-end (omega (arith, length-rows a.cells.now a.count)) c.loop-i.invariant.1
+    let l = c.args.fit.rows.now in
+    making-end (omega (arith, length-rows l (length l))) c.loop-i.invariant

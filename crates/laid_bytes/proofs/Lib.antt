@@ -1,4 +1,0 @@
-pub mod WholeLaws
-pub mod LiftLaws
-pub mod OnPlacesLaws
-pub mod OnlyLaws

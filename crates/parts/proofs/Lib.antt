@@ -1,0 +1,3 @@
+pub mod WholeLaws
+pub mod LiftLaws
+pub mod PartLaws

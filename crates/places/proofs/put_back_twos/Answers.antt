@@ -1,6 +1,0 @@
--- What is not named follows from the arithmetic around it.
-use Rattle.places.proofs.PlaceLaws.{put_back}
-use Rattle.places.proofs.put_back_twos.Goals as goal
-
-pub returns : goal.returns
-returns c = put_back 2 _ _ _ c.lesser-k.ensures c.put_twos.ensures
