@@ -32,7 +32,7 @@ fn play_all<T: Layout<u16>, S: Layout<u32>, O: Layout<u16>, D: Layout<u32>>(
     for w in 0..words {
         let end = at + n;
         let start = S::at(starts, w);
-        let played = replay::play_word_on::<T, S, O, D>(
+        let played = replay::play_word::<T, S, O, D>(
             rows,
             trace,
             start,

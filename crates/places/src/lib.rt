@@ -25,6 +25,6 @@ pub fn numbers_in<const W: usize, N: Number<W>>(b: &[u8], out: &mut [N]) -> usiz
 pub fn put_back<const W: usize, N: Number<W>>(out: &mut [u8], vals: &[N], n: usize)
     ensures { out.new ≡ placed out.old 0 (bytes_by N.digits (take n vals.now)) }
 {
-    let k = n.min(vals.len());
+    let k = wire::lesser(n, vals.len());
     wire::put(out, 0, &vals[..k]);
 }

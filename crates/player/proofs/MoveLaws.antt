@@ -36,7 +36,7 @@ use Rattle.player.specs.Moves.{waiting_in, Whole, FirstDue, move_tests, PlayOutc
 use Rattle.player.specs.Steps.{Next, config_after, answer_after, Stepped, LowestOpen, FirstOpen}
 
 -- tests that hold, then others
-answered-after : (k l : List Test) {D : Fields → Type 0} {K : Type 0} {f : Fields} → Passes k → Answered l D K f → Answered (k ++ l) D K f
+pub answered-after : (k l : List Test) {D : Fields → Type 0} {K : Type 0} {f : Fields} → Passes k → Answered l D K f → Answered (k ++ l) D K f
 answered-after k l p (answers q d) = answers ((passes_append k l).1 (p, q)) d
 answered-after k l p (refuses {n = n} {p = i} e b kept) = refuses e ((fails-back k l n i p).1 b) kept
 

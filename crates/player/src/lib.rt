@@ -78,6 +78,16 @@ impl From<Denial> for u16 {
     }
 }
 
+// The number of an answer: 0 of what is done, else that of its denial.
+pub fn number(a: Answer) -> u16
+    ensures { result ≡ (answer_fields a).status }
+{
+    match a {
+        Ok(_) => 0,
+        Err(denial) => u16::from(denial),
+    }
+}
+
 // The next configuration, with the answer.
 // A denied move hands back the configuration that it was given: no Result of both.
 #[derive(Clone, Copy)]

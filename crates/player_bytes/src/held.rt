@@ -65,7 +65,9 @@ pub(crate) fn put_records(out: &mut [u8], list: &[Pending; 240])
     requires { 1920 ≤ length out.old }
     ensures { out.new ≡ records_bytes list.now ++ drop 1920 out.old }
 {
+    // With the length fixed at 1,920 the compiler leaves out a test at each record.
+    let held = &mut out[..1920];
     for (i, &p) in list.iter().enumerate() {
-        put_record(out, i * 8, p);
+        put_record(held, i * 8, p);
     }
 }

@@ -5,6 +5,10 @@ ghost use Rattle.model.specs.Answers.{Tells};
 ghost use Rattle.model.specs.Lists.{All, Sorted};
 ghost use Rattle.records.specs.Record.{Sane, FirstDueAt, aged_in, closed_in};
 
+pub use crate::sweeps::{Seen, Turned, Work, sweep};
+
+mod sweeps;
+
 // A waiting response: its step, its letter and the time that is left, in 1/256 tick.
 #[derive(Clone, Copy, PartialEq, Eq, Default)]
 pub struct Pending {

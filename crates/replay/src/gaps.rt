@@ -82,7 +82,7 @@ fn first_outside<T: Layout<u16>, S: Layout<u32>>(
 }
 
 // The lengths and the gaps of a word on transitions that nobody tested, with so many places for its order and its due times.
-pub fn judge_on<T: Layout<u16>, S: Layout<u32>>(
+pub fn judge_word<T: Layout<u16>, S: Layout<u32>>(
     rows: &[Row],
     trace: &[T::Cell],
     start: u32,

@@ -4,11 +4,11 @@ ghost use Rattle.std.specs.Prelude.{◌≡◌, ◌+◌, ◌*◌, ◌%◌, ◌^�
 ghost use Rattle.model.specs.Stamps.{gap_of};
 ghost use Rattle.table.specs.Refusal.{checked_fields};
 ghost use Rattle.table.specs.Rows.{row_of, machine_of};
-ghost use Rattle.table.specs.Tests.{Tested};
-ghost use Rattle.replay.specs.Laid.{word_tests, WordRun, ListsRun};
+ghost use Rattle.replay.specs.Laid.{WordRun, ListsRun};
 ghost use Rattle.replay.specs.OnPlaces.{OnPlaces};
 ghost use Rattle.replay.specs.Play.{ReplayOutcome};
 
+pub use crate::gaps::judge_word;
 use layout::{Fours, Layout, Plain, Twos};
 use table::{Refusal, Row, Table};
 
@@ -30,22 +30,6 @@ pub struct Moment {
     pub due: u32,
 }
 
-// The lengths and the gaps of a word on transitions that nobody tested, with so many places for its order and its due times.
-pub fn judge_word(
-    rows: &[Row],
-    trace: &[u16],
-    start: u32,
-    stamps: &[u32],
-    orders: usize,
-    dues: usize,
-) -> Result<(), Refusal>
-    ensures { Tested
-        (word_tests rows.now trace.now start stamps.now orders dues)
-        (checked_fields result) }
-{
-    gaps::judge_on::<Plain, Plain>(rows, trace, start, stamps, orders, dues)
-}
-
 // When a step of that transition arrives and when it is due, by the arrival and the stamp before it, on a counter that wraps.
 pub fn timed(rows: &[Row], step: u16, arrival: u32, before: u32, stamp: u32) -> Moment
     ensures { (result.arrival ≡ (arrival + gap_of before stamp) % 2 ^ 32)
@@ -60,7 +44,7 @@ pub fn timed(rows: &[Row], step: u16, arrival: u32, before: u32, stamp: u32) -> 
 }
 
 // One word on transitions that nobody tested, however its lists stand in memory: its steps laid out, or refused and nothing written.
-pub fn play_word_on<T: Layout<u16>, S: Layout<u32>, O: Layout<u16>, D: Layout<u32>>(
+pub fn play_word<T: Layout<u16>, S: Layout<u32>, O: Layout<u16>, D: Layout<u32>>(
     rows: &[Row],
     trace: &[T::Cell],
     start: u32,
@@ -73,28 +57,12 @@ pub fn play_word_on<T: Layout<u16>, S: Layout<u32>, O: Layout<u16>, D: Layout<u3
     ensures order_rest { O.beside order.new ≡ O.beside order.old }
     ensures due_rest { D.beside due.new ≡ D.beside due.old }
 {
-    gaps::judge_on::<T, S>(rows, trace, start, stamps, O::len(order), D::len(due))?;
+    judge_word::<T, S>(rows, trace, start, stamps, O::len(order), D::len(due))?;
     responses::play::<T, S, O, D>(rows, trace, start, stamps, order, due);
     Ok(())
 }
 
-// The same of numbers as the machine has them.
-pub fn play_word(
-    rows: &[Row],
-    trace: &[u16],
-    start: u32,
-    stamps: &[u32],
-    order: &mut [u16],
-    due: &mut [u32],
-) -> Result<(), Refusal>
-    ensures { WordRun
-        rows.now trace.now start stamps.now order.old due.old
-        (checked_fields result) order.new due.new }
-{
-    play_word_on::<Plain, Plain, Plain, Plain>(rows, trace, start, stamps, order, due)
-}
-
-// The same within two byte buffers: a step number in two bytes, a due time in four.
+// The same within two byte buffers, of lists as the machine has them: a step number in two bytes, a due time in four.
 pub fn play_word_bytes(
     rows: &[Row],
     trace: &[u16],
@@ -107,7 +75,7 @@ pub fn play_word_bytes(
         (λ o₀ d₀ o d. WordRun rows.now trace.now start stamps.now o₀ d₀ (checked_fields result) o d)
         order.old due.old order.new due.new }
 {
-    play_word_on::<Plain, Plain, Twos, Fours>(rows, trace, start, stamps, order, due)
+    play_word::<Plain, Plain, Twos, Fours>(rows, trace, start, stamps, order, due)
 }
 
 // The mark of a word: the step that its refusal names, or 0. As 16 bits show it: no word has more than 512 steps.
@@ -145,7 +113,7 @@ pub fn replay_on<T: Layout<u16>, S: Layout<u32>, O: Layout<u16>, D: Layout<u32>>
     if O::len(order) < n || D::len(due) < n {
         return Err(Refusal::NoRoom);
     }
-    play_word_on::<T, S, O, D>(rows, trace, start, stamps, order, due)
+    play_word::<T, S, O, D>(rows, trace, start, stamps, order, due)
 }
 
 // Steps in response order, counted from 1, and beside each its due time in 1/256 tick since the start.

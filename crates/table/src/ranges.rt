@@ -6,6 +6,7 @@ ghost use Rattle.model.specs.Table.{InRange, Unlike};
 ghost use Rattle.table.specs.Rows.{transitions, said};
 
 use crate::Row;
+use crate::rows::has_row;
 use crate::seen::{key, mark};
 
 // Every number of a transition within its range.
@@ -35,7 +36,7 @@ fn unlike_by(rows: &[Row], seen: &mut [u8]) -> bool
     ensures { Tells result (Unlike (transitions rows.now)) }
 {
     for (i, &r) in rows.iter().enumerate() {
-        if mark(seen, key(r)) && rows[..i].contains(&r) {
+        if mark(seen, key(r)) && has_row(&rows[..i], r) {
             return false;
         }
     }

@@ -1,10 +1,5 @@
 -- The file rule: a valid machine's file is read as that machine, and nothing else is.
 use Rattle.std.specs.Prelude.{Some, None, Ok, Err}
-use Rattle.std.specs.Cmp.Lexicographic.{pointwise}
-use Rattle.std.specs.Bool.{one_answer}
-use Rattle.std.proofs.lemmas.Slice.Eq.{slice_eq-Decides}
-use Rattle.std.proofs.lemmas.Bool.Decides.{Decides-eqb}
-use Rattle.table_file.specs.Records.{record_at}
 use mathlib.Core.Path.{◌≡◌, refl, sym, ap, ◌∙◌}
 use mathlib.Core.Bool.{Bool, true, false, cond}
 use mathlib.Core.List.{List, [], ◌∷◌, ◌++◌, append-nil}
@@ -22,17 +17,17 @@ use Rattle.model.specs.Lists.All.{all_nil, all_cons}
 use Rattle.model.specs.Table.{Transition, Machine, InRange, Valid, none}
 use Rattle.model.proofs.Lists.{in_place}
 use Rattle.wire.specs.Bytes.{bytes_by, le, bytes, Bytes, les}
-use Rattle.wire.proofs.Bytes.{bytes-les, le-take, le-part, Held, les-front, les-bytes, bytes_drop, bytes-append, length-bytes}
+use Rattle.wire.proofs.Bytes.{le-take, le-part, Held, les-front, les-bytes, bytes_drop, bytes-append, length-bytes}
 use Rattle.table.specs.declared.Refusal.{Refusal}
 use Rattle.table.specs.declared.Row.{Row}
 use Rattle.table.specs.Refusal.{refusal_number, refusal_place}
 use Rattle.table.specs.Rows.{numbers, said, flat}
-use Rattle.table.specs.Check.{head_fine, in_range, same, has}
+use Rattle.table.specs.Check.{head_fine, in_range, has}
 use Rattle.table.specs.Tests.{Sized}
 use Rattle.model.specs.Table.{Unlike}
 use Rattle.table_file.specs.File.{Frame, Opening, head_numbers, row_numbers, end_numbers, file_of, ValidFile, length_in, kind_in, body_in, whole, row_in, frame_in, head_in}
 use Rattle.table_file.specs.File.{Listed, found, refused, ended, admitted, rows_from, Scan, machine, stopped, with_rows, with_head, read_file}
-use Rattle.table.proofs.RangeLaws.{same_true, head-true, in-range, has_in}
+use Rattle.table.proofs.RangeLaws.{head-true, in-range, has_in}
 use Rattle.table.proofs.RowLaws.{unlike-more}
 use Rattle.table_file.proofs.FrameLaws.{whole-yes, head-whole, frame_row, RowSays, took-says, EndSays, last_says, HeadSays, opened-says}
 use Rattle.table_file.proofs.ReadLaws.{ended_is, admitted-is, rows-bad, rows_last, rows-full, rows-took, read_found}
@@ -83,22 +78,6 @@ body-numbers rest =
       le-part 2 rest 14 4 10 (omega arith),
       le-part 2 rest 14 4 12 (omega arith),
     )
-
--- two records hold one transition if their bodies are the same bytes, and only then
-module _ (l : List ℕ) (b : Bytes l) (i j : ℕ) (p : 8 + i * 18 + 18 ≤ length l) (q : 8 + j * 18 + 18 ≤ length l) where
-  abbrev body-at : ℕ → List ℕ
-  body-at k = body_in 14 (drop (8 + k * 18) l)
-
-  body-bytes : (k : ℕ) → 8 + k * 18 + 18 ≤ length l → bytes 2 (numbers (said (record_at l k))) ≡ body-at k
-  body-bytes k h =
-      ap (bytes 2) (body-numbers (drop (8 + k * 18) l)) ∙ bytes-les 2 7 (drop (8 + k * 18) l) 4 (bytes_drop (8 + k * 18) l b) (omega (arith, length-drop (8 + k * 18) l))
-
-  pub same-bytes : (r : Bool) → r ≡ pointwise eqb (body-at i) (body-at j) → r ≡ same (said (record_at l i)) (said (record_at l j))
-  same-bytes r e =
-      one_answer _ _ (slice_eq-Decides Decides-eqb (body-at i) (body-at j) r e) (
-        λ k. sym (body-bytes i p) ∙ ap (λ (t : Transition). bytes 2 (numbers t)) ((same_true _ _).0 k) ∙ body-bytes j q,
-        λ k. (same_true _ _).1 (ap (λ (body : List ℕ). said (row_in body)) k),
-      )
 
 row_fits : (states : ℕ) (t : Transition) → states ≤ 32 → InRange states t → Held 2 (row_numbers t)
 row_fits states t h r = omega arith

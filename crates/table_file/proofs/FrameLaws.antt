@@ -12,15 +12,17 @@ use lib.Dec.{eqb}
 use lib.ListN.{length, take, drop, length-drop}
 use Rattle.std.proofs.Math.Bool.{and-false}
 use lib.Seq.{drop-drop}
-use Rattle.wire.specs.Bytes.{le}
+use Rattle.model.specs.Table.{Transition}
+use Rattle.wire.specs.Bytes.{le, Bytes}
 use Rattle.wire.proofs.Bytes.{le-drop, le-halves}
 use Rattle.table.specs.declared.Refusal.{Refusal}
 use Rattle.table.specs.declared.Refusal.TheVariants.{Cut, Misplaced}
 use Rattle.table.specs.declared.Row.{Row}
 use Rattle.table.specs.Refusal.{passing}
 use Rattle.table.specs.Rows.{said}
-use Rattle.table.specs.Check.{head_fine}
+use Rattle.table.specs.Check.{head_fine, same}
 use Rattle.table.specs.Seen.{mix_of, key_of}
+use Rattle.table.proofs.RangeLaws.{same_true, same_not}
 use Rattle.table_file.specs.File.{Frame, Opening, length_in, kind_in, body_in, whole, row_in, frame_in, opened_in, head_in, finish_of}
 
 module _ (n : ℕ) (rest : List ℕ) where
@@ -104,6 +106,23 @@ module _ (l : List ℕ) (at : ℕ) where
 -- the key of a body by four numbers
 pub body-key : (body : List ℕ) → mix_of (le 4 body 0) (le 4 body 4) (le 4 body 8) (le 2 body 12) ≡ key_of (said (row_in body))
 body-key body = rw (le-halves body 0, le-halves body 4, le-halves body 8)
+
+-- two bodies do not hold one transition if they differ in a number of it
+pub body-not : (number : Transition → ℕ) (a b : List ℕ) {x y : ℕ} → x ≡ number (said (row_in a)) → y ≡ number (said (row_in b)) → (x ≡ y → ⊥)
+    → false ≡ same (said (row_in a)) (said (row_in b))
+body-not number a b p q h = same_not number (said (row_in a)) (said (row_in b)) (λ e. h (p ∙ e ∙ sym q))
+
+-- they do if these numbers agree
+pub body_same : (a b : List ℕ) → Bytes a → Bytes b → le 4 a 0 ≡ le 4 b 0 → le 4 a 4 ≡ le 4 b 4 → le 4 a 8 ≡ le 4 b 8 → le 2 a 12 ≡ le 2 b 12
+    → true ≡ same (said (row_in a)) (said (row_in b))
+body_same a b p q e f g h =
+    let x = halves 0 e in
+    let y = halves 4 f in
+    let z = halves 8 g in
+    sym ((same_true (said (row_in a)) (said (row_in b))).1 (rw (x.0, x.1, y.0, y.1, z.0, z.1, h)))
+  where
+    halves : (k : ℕ) → le 4 a k ≡ le 4 b k → (le 2 a k ≡ le 2 b k) × (le 2 a (k + 2) ≡ le 2 b (k + 2))
+    halves k e = omega (arith, le-halves a k, le-halves b k, p k, p (k + 1), q k, q (k + 1), e)
 
 -- what the record must have been, given the answer
 pub data FrameSays (rest : List ℕ) : Frame → Type 0 where

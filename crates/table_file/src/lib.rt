@@ -63,13 +63,14 @@ pub fn write_table(t: &Table, out: &mut [u8]) -> Result<usize, Refusal>
     ensures { WriteOutcome (machine_of t.now) out.old (written_fields result) out.new }
 {
     table::check(t)?;
-    let n = t.count;
+    let rows = t.rows();
+    let n = rows.len();
     let size = 12 + n * 18;
     if out.len() < size {
         return Err(Refusal::NoRoom);
     }
     writer::put_head(out, t.states, t.initial);
-    writer::put_rows(t.rows(), out);
+    writer::put_rows(rows, out);
     writer::put_end(out, 8 + n * 18);
     Ok(size)
 }

@@ -14,7 +14,7 @@ use Rattle.model.specs.Table.{Transition, InRange, at, none}
 use Rattle.model.specs.Shown.{late_gap}
 use Rattle.model.specs.Span.{sum_u, sum_late}
 use Rattle.model.specs.Criterion.{Crosses, Spent, Criterion}
-use Rattle.model.proofs.CriterionLaws.{spent-none}
+use Rattle.model.proofs.CriterionLaws.{spent-none, unspent}
 use Rattle.model.proofs.Words.{late-most}
 use Rattle.model.proofs.Lists.{total-append, total-const, length-between, all-at, all-between, all-total}
 use Rattle.table.specs.declared.Row.{Row}
@@ -58,6 +58,7 @@ sum-grows f tr k m j h =
 pub record Looked (p : Line) (k : ℕ) (f : Transition) (m u late : ℕ) : Type 0 where
   pub first : f ≡ at (along p) k
   pub after : k < m
+  pub near : m ≤ k + 239
   pub within : m ≤ length p.trace.now
   pub low : u ≡ sofar (λ t. t.u) (along p) k m
   pub high : late ≡ sofar late_gap (along p) k m
@@ -70,6 +71,7 @@ module _ {p : Line} {k : ℕ} where
       record {
         first = step-along p k h s e;
         after = omega arith;
+        near = omega arith;
         within = omega arith;
         low = rw z;
         high = rw z;
@@ -119,13 +121,23 @@ module _ {p : Line} {k : ℕ} {f : Transition} {m u late : ℕ} (seen : Looked p
     λ j x. dite (dec_lt j m) (λ a. absurd (seen.none_yet j a x)) (λ b. omega arith),
   )
 
-  pub looked-more : (Crosses f (said s) (u + s.u) (late + g) → ⊥)
+  -- each u is at least 1 and d at most 240: no more than 238 steps are passed
+  next-near : (Spent f (u + s.u) → ⊥) → m - k ≤ 238
+  next-near h =
+      let b : List Transition = between k m tr in
+      let ones : total (λ t. 1) b ≤ sum_u tr k m = all-total (λ t. 1) (λ t. t.u) (λ t x. x.low) (all-between k m (fine p)) in
+      let late : (at tr k).d ≤ 240 = (all-at none (fine p) k (omega (arith, inside, seen.after))).late in
+      let h' : Spent (at tr k) (sum_u tr k m) → ⊥ = rw (seen.first, next_low) at h in
+      omega (arith, total-const 1 b, length-between k m tr inside, unspent (at tr k) (sum_u tr k m) 240 h' late)
+
+  pub looked-more : (Spent f (u + s.u) → ⊥) → (Crosses f (said s) (u + s.u) (late + g) → ⊥)
       → Looked p k f (m + 1) (u + s.u) (late + g)
-  looked-more no-turn =
+  looked-more below no-turn =
       let e : m + 1 - suc k ≡ m - k = omega arith in
       record {
         first = seen.first;
         after = omega arith;
+        near = omega (arith, next-near below);
         within = omega arith;
         low = rw e next_low;
         high = rw e next-high;

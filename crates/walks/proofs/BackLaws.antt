@@ -51,7 +51,7 @@ module _ {ts : List Transition} {best : List ℕ} {e a j : ℕ} {t : Transition}
   pub not_some : cell best (a - t.u) t.from ≡ 0 → Explains ts best e a j → ⊥
   not_some h p = let q = rw (left_is p, z.here) at p.some in omega arith
 
-  is_sum : t.to ≡ e → t.u ≤ a → 1 ≤ cell best (a - t.u) t.from → cell best (a - t.u) t.from + late_gap t ≡ cell best a e → Explains ts best e a j
+  pub is_sum : t.to ≡ e → t.u ≤ a → 1 ≤ cell best (a - t.u) t.from → cell best (a - t.u) t.from + late_gap t ≡ cell best a e → Explains ts best e a j
   is_sum = rw (← z.here) (λ h l s q. record { to = h; left = a - (at ts j).u; whole = omega arith; some = s; sum = q })
 
   -- where there is a number before it the sum tells

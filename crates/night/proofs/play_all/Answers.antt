@@ -45,8 +45,8 @@ offset_bounds-due-at g c =
     let e : l.at * c.SIZE-in-loop-w-4.result ≤ length l.due = rw c.SIZE-in-loop-w-4.ensures s in
     search rules
 
-pub slice_bounds-play_word_on-end-in-loop-w-2 : goal.slice_bounds-play_word_on-end-in-loop-w-2
-slice_bounds-play_word_on-end-in-loop-w-2 g c =
+pub slice_bounds-play_word-end-in-loop-w-2 : goal.slice_bounds-play_word-end-in-loop-w-2
+slice_bounds-play_word-end-in-loop-w-2 g c =
     let l = c.loop-w in
     let f = lent_fits l.invariant.playing c.requires (omega (arith, c.len-words.ensures)) in
     let s = g.met.D.Layout.fits l.due _ f.2 in
@@ -58,7 +58,7 @@ pub loop-w-preserved : goal.loop-w-preserved
 loop-w-preserved g c =
     let l = c.loop-w in
     let f = lent_fits l.invariant.playing c.requires (omega (arith, c.len-words.ensures)) in
-    let one = c.play_word_on-played in
+    let one = c.play_word-played in
     let more : l.w < length (g.S.Layout.list c.args.starts.now) = omega (arith, c.len-words.ensures) in
     let n = length (g.T.Layout.list c.args.trace.now) in
     let en : l.at + c.len-n.result ≡ l.at + n = omega (arith, c.len-n.ensures) in

@@ -4,4 +4,4 @@ use lib.ListN.{length-take}
 use Rattle.places.proofs.put_back.Goals as goal
 
 pub slice_bounds-put-end : goal.slice_bounds-put-end
-slice_bounds-put-end g c = simp length-take (omega (arith, c.min-k.ensures))
+slice_bounds-put-end g c = simp length-take (omega (arith, c.lesser-k.ensures))

@@ -49,4 +49,4 @@ returns-clause-run g c =
     (told _ c.is_whole.ensures c.if-not-is_whole.false, told _ c.is_trace_on.ensures c.if-not-is_trace_on.false)
     (told _ c.is_whole-2.ensures c.if-not-is_whole-2.false, omega (arith, c.len-n.ensures, c.len.ensures))
     (omega (arith, c.len-n.ensures, c.len-2.ensures), omega (arith, c.len-n.ensures, c.len-else-len-n-2.ensures))
-    c.play_word_on.ensures.run
+    c.play_word.ensures.run

@@ -8,4 +8,4 @@ loop-i-preserved g c = taking-more _ _ _ _ c.read.result c.loop-i.invariant (ome
 
 pub returns : goal.returns
 unfolding taken_by
-returns g c = let e : c.loop-i.i ≡ c.min-n.result = omega arith in rw (← c.min-n.ensures, ← e) c.loop-i.invariant
+returns g c = let e : c.loop-i.i ≡ c.lesser-n.result = omega arith in rw (← c.lesser-n.ensures, ← e) c.loop-i.invariant

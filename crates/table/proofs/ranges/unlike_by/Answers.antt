@@ -1,27 +1,23 @@
 use borrow.Author.Rules.{rules}
 use native.Mathlib.Omega.{arith}
-use mathlib.Core.Path.{◌≡◌, refl}
+use mathlib.Core.Path.{◌≡◌, refl, sym, ◌∙◌}
 use mathlib.Core.Bool.{false}
-use Rattle.std.proofs.lemmas.Bool.{false_from_ne_true}
-use Rattle.std.proofs.lemmas.Grind.{common_steps}
 use Rattle.table.specs.Rows.{row_at, rows, said}
-use Rattle.model.specs.Lists.{In}
 use Rattle.table.specs.Check.{has}
-use Rattle.table.proofs.RangeLaws.{has_in}
 use Rattle.table.proofs.RowLaws.{unlike-none, unlike-next, unlike-stop}
-use Rattle.table.proofs.SliceLaws.{contains-rows}
+use Rattle.table.proofs.SliceLaws.{rows-lent}
 use Rattle.table.proofs.SeenLaws.{marked_start, marked-listed, marked-not, marked_next}
 use Rattle.table.proofs.ranges.unlike_by.Goals as goal
-use Rattle.table.proofs.ranges.unlike_by.Goals.{else-mark-via-then-mark+else-contains, else-mark-via-else-mark}
+use Rattle.table.proofs.ranges.unlike_by.Goals.{else-mark-via-then-mark+else-has_row, else-mark-via-else-mark}
 
 pub loop-i-init : goal.loop-i-init
 unfolding rows
 loop-i-init c = let l = c.args.rows.now in (unlike-none l, marked_start (λ i. said (row_at l i)) _ (omega (arith, c.requires.1)), refl)
 
-pub returns-then-contains : goal.returns-then-contains
-returns-then-contains c =
+pub returns-then-has_row : goal.returns-then-has_row
+returns-then-has_row c =
     let l = c.args.rows.now in
-    unlike-stop l _ c.loop-i.i (omega arith) ((has_in _ _).1 ((contains-rows l c.loop-i.i _ (omega arith)).0 (grind (arith, common_steps))))
+    unlike-stop l _ c.loop-i.i (omega arith) (rw (rows-lent l c.loop-i.i (omega arith)) at (sym c.has_row.ensures ∙ c.if-has_row.true))
 
 pub loop-i-preserved : goal.loop-i-preserved
 unfolding rows
@@ -32,8 +28,7 @@ loop-i-preserved c =
     let k = c.key.ensures in
     let new : has t (rows cells l.i) ≡ false =
     elim c.else-mark.branch [
-      | else-mark-via-then-mark+else-contains w ↦ false_from_ne_true (has t (rows cells l.i))
-          (λ e. let p : In t (rows cells l.i) = (has_in _ _).0 e in let m = (contains-rows cells l.i _ (omega arith)).1 p in grind (arith, common_steps))
+      | else-mark-via-then-mark+else-has_row w ↦ rw (rows-lent cells l.i (omega arith)) at (sym w.has_row.ensures ∙ w.if-has_row.false)
       | else-mark-via-else-mark w ↦ marked-not l.invariant.1 t k c.mark.ensures.0 w.if-mark.false
     ] in (
       unlike-next cells l.i l.invariant.0 new,

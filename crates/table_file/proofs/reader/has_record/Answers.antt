@@ -7,27 +7,25 @@ use Rattle.table.specs.Check.{same}
 use Rattle.table.proofs.RowLaws.{has-none, has_more, has_here}
 use Rattle.table_file.specs.Records.{record_at}
 use Rattle.table_file.proofs.FrameLaws.{left_body}
-use Rattle.table_file.proofs.FileLaws.{same-bytes}
 use Rattle.table_file.proofs.reader.has_record.Goals as goal
-use Rattle.table_file.proofs.reader.has_record.Goals.{After-eq}
+use Rattle.table_file.proofs.reader.has_record.Goals.{After-same_body}
 
 -- what the comparison tells
-alike : (p : After-eq) → let l = p.args.file.now in p.eq.result ≡ same (said (record_at l p.loop-i.i)) (said (record_at l p.args.n))
+alike : (p : After-same_body) → let l = p.args.file.now in p.same_body.result ≡ same (said (record_at l p.loop-i.i)) (said (record_at l p.args.n))
 alike p =
     let l = p.args.file.now in
     let i = p.loop-i.i in
     let n = p.args.n in
-    same-bytes l (λ k. (p.type_inv.file k).fits) i n (omega arith) (omega arith) p.eq.result
-    (rw (left_body l (8 + i * 18) (8 + i * 18 + 18) refl, left_body l (8 + n * 18) (8 + n * 18 + 18) refl) at p.eq.ensures)
+    rw (left_body l (8 + i * 18) (8 + i * 18 + 18) refl, left_body l (8 + n * 18) (8 + n * 18 + 18) refl) at p.same_body.ensures
 
 pub loop-i-init : goal.loop-i-init
 loop-i-init c = has-none _ _
 
-pub returns-then-eq : goal.returns-then-eq
-returns-then-eq c =
+pub returns-then-same_body : goal.returns-then-same_body
+returns-then-same_body c =
     let l = c.args.file.now in
     has_here (λ i. said (record_at l i)) (said (record_at l c.args.n)) c.args.n c.loop-i.i (omega arith)
-    (sym (alike (goal.at.returns-then-eq c).After-eq) ∙ c.if-eq.true)
+    (sym (alike (goal.at.returns-then-same_body c).After-same_body) ∙ c.if-same_body.true)
 
 pub loop-i-preserved : goal.loop-i-preserved
-loop-i-preserved c = has_more _ _ _ c.loop-i.invariant (sym (alike (goal.at.loop-i-preserved c).After-eq) ∙ c.if-eq.false)
+loop-i-preserved c = has_more _ _ _ c.loop-i.invariant (sym (alike (goal.at.loop-i-preserved c).After-same_body) ∙ c.if-same_body.false)

@@ -38,6 +38,7 @@ loop-m-preserved c =
     let g = c.late_gap-late in
     rw c.from-u.ensures
     (looked-more c.loop-m.invariant (omega arith) s.result s.ensures g.result g.ensures
+    (rw c.from-u.ensures at (untold c.spent.result c.spent.ensures c.if-spent.false))
     (rw c.from-u.ensures at (untold c.crosses.result c.crosses.ensures c.if-crosses.false)))
 
 pub returns : goal.returns

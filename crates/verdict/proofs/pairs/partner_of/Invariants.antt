@@ -1,3 +1,4 @@
+-- The loop keeps, beside what it has seen, that it looks at no more than 239 steps (`near`).
 use Rattle.table.specs.Rows.{said}
 use Rattle.verdict.proofs.PairLaws.{Looked}
 use Rattle.verdict.proofs.pairs.partner_of.Given as goal

@@ -1,6 +1,6 @@
 use Rattle.std.proofs.Common.{arith}
 use Rattle.replay.proofs.ReplayLaws.{word-long, word-uneven, word-cramped, word-gaps}
-use Rattle.replay.proofs.gaps.judge_on.Goals as goal
+use Rattle.replay.proofs.gaps.judge_word.Goals as goal
 
 pub returns-then-n-gt512 : goal.returns-then-n-gt512
 returns-then-n-gt512 g c = word-long _ _ _ _ _ _ (λ h. omega (arith, c.len-n.ensures))
