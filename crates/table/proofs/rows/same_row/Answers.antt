@@ -10,7 +10,7 @@ use Rattle.table.proofs.rows.same_row.Goals as goal
 pub returns-then-r-s : goal.returns-then-r-s
 returns-then-r-s c = same_not (λ t. t.from) _ _ c.if-r-s.true
 
--- of equal rows each of the four numbers is, and so the sum
+-- equal rows have equal numbers, and so equal sums
 pub returns-then-packed : goal.returns-then-packed
 returns-then-packed c = sym (false_from_ne_true _ (λ e. c.if-packed.true (equal e)))
   where
