@@ -58,11 +58,15 @@ sum-grows f tr k m j h =
 pub record Looked (p : Line) (k : ℕ) (f : Transition) (m u late : ℕ) : Type 0 where
   pub first : f ≡ at (along p) k
   pub after : k < m
-  pub near : m ≤ k + 239
   pub within : m ≤ length p.trace.now
   pub low : u ≡ sofar (λ t. t.u) (along p) k m
   pub high : late ≡ sofar late_gap (along p) k m
   pub none_yet : (j : ℕ) → j < m → Criterion (along p) k j → ⊥
+
+-- and it has looked at no more than 239 steps
+pub record LookedNear (p : Line) (k : ℕ) (f : Transition) (m u late : ℕ) : Type 0 where
+  pub looked : Looked p k f m u late
+  pub near : m ≤ k + 239
 
 module _ {p : Line} {k : ℕ} where
   pub looked-first : k < length p.trace.now → (s : Row) → s ≡ row_of p.rows.now (get_or p.trace.now k 0) → Looked p k (said s) (k + 1) 0 0
@@ -71,12 +75,14 @@ module _ {p : Line} {k : ℕ} where
       record {
         first = step-along p k h s e;
         after = omega arith;
-        near = omega arith;
         within = omega arith;
         low = rw z;
         high = rw z;
         none_yet = λ j b x. omega (arith, x.ordered);
       }
+
+  pub near-first : k < length p.trace.now → (s : Row) → s ≡ row_of p.rows.now (get_or p.trace.now k 0) → LookedNear p k (said s) (k + 1) 0 0
+  near-first h s e = record { looked = looked-first h s e; near = omega arith }
 
   pub looked-last : {f : Transition} {m u late : ℕ} → Looked p k f m u late → length p.trace.now ≤ m → PartnerOf (along p) k None
   looked-last seen h j x = seen.none_yet j (omega (arith, x.inside, length-along p)) x
@@ -121,6 +127,21 @@ module _ {p : Line} {k : ℕ} {f : Transition} {m u late : ℕ} (seen : Looked p
     λ j x. dite (dec_lt j m) (λ a. absurd (seen.none_yet j a x)) (λ b. omega arith),
   )
 
+  pub looked-more : (Crosses f (said s) (u + s.u) (late + g) → ⊥) → Looked p k f (m + 1) (u + s.u) (late + g)
+  looked-more no-turn =
+      let e : m + 1 - suc k ≡ m - k = omega arith in
+      record {
+        first = seen.first;
+        after = omega arith;
+        within = omega arith;
+        low = rw e next_low;
+        high = rw e next-high;
+        none_yet = λ j h x. ⊎_elim
+            (λ (q : j ≡ m). no-turn (rw asked (rw q at x.meets)))
+            (λ (a : j < m). seen.none_yet j a x)
+            (eq-or-lt_of_le (omega arith));
+      }
+
   -- each u is at least 1 and d at most 240: no more than 238 steps are passed
   next-near : (Spent f (u + s.u) → ⊥) → m - k ≤ 238
   next-near h =
@@ -130,22 +151,9 @@ module _ {p : Line} {k : ℕ} {f : Transition} {m u late : ℕ} (seen : Looked p
       let h' : Spent (at tr k) (sum_u tr k m) → ⊥ = rw (seen.first, next_low) at h in
       omega (arith, total-const 1 b, length-between k m tr inside, unspent (at tr k) (sum_u tr k m) 240 h' late)
 
-  pub looked-more : (Spent f (u + s.u) → ⊥) → (Crosses f (said s) (u + s.u) (late + g) → ⊥)
-      → Looked p k f (m + 1) (u + s.u) (late + g)
-  looked-more below no-turn =
-      let e : m + 1 - suc k ≡ m - k = omega arith in
-      record {
-        first = seen.first;
-        after = omega arith;
-        near = omega (arith, next-near below);
-        within = omega arith;
-        low = rw e next_low;
-        high = rw e next-high;
-        none_yet = λ j h x. ⊎_elim
-            (λ (q : j ≡ m). no-turn (rw asked (rw q at x.meets)))
-            (λ (a : j < m). seen.none_yet j a x)
-            (eq-or-lt_of_le (omega arith));
-      }
+  pub near-more : (Spent f (u + s.u) → ⊥) → (Crosses f (said s) (u + s.u) (late + g) → ⊥)
+      → LookedNear p k f (m + 1) (u + s.u) (late + g)
+  near-more below no-turn = record { looked = looked-more no-turn; near = omega (arith, next-near below) }
 
 -- the search over k stands at k
 pub passed-by : (tr : List Transition) (k : ℕ) → ((i : ℕ) → i < k → PartnerOf tr i None) → Passed tr k
