@@ -63,7 +63,7 @@ pub record Looked (p : Line) (k : ℕ) (f : Transition) (m u late : ℕ) : Type 
   pub high : late ≡ sofar late_gap (along p) k m
   pub none_yet : (j : ℕ) → j < m → Criterion (along p) k j → ⊥
 
--- and it has looked at no more than 239 steps
+-- and m is near: with it the search looks at no more than 239 steps
 pub record LookedNear (p : Line) (k : ℕ) (f : Transition) (m u late : ℕ) : Type 0 where
   pub looked : Looked p k f m u late
   pub near : m ≤ k + 239
